@@ -1,5 +1,6 @@
 pub mod Checks
 pub mod TraceTexts
+pub mod Spelling
 pub mod Soundness
 pub mod Making
 pub use Rattle.proof_checks.specs as proof_checks

@@ -4,9 +4,11 @@
 #![tactic(auto)]
 
 mod laws;
+mod limits;
 mod reject;
 mod trace_proof;
 
 pub use laws::{accepted_traces_are_sound, made_traces_are_accepted, made_traces_are_proofs};
+pub use limits::MAGIC;
 pub use reject::TraceReject;
 pub use trace_proof::{TraceItem, TraceItemList, TraceProof};

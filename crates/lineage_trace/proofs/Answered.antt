@@ -1,0 +1,34 @@
+-- An answer about dependencies is about the version that a lookup finds.
+use Rattle.std.proofs.Common.{◌≡◌, ℕ, List, Option, Some, None, refl, ap}
+use Rattle.std.specs.Option.{option_map}
+use Rattle.lc_base.specs.declared.answer.Answer.{Answer}
+use Rattle.lc_base.specs.declared.answer.Kind.TheVariants.{Back}
+use Rattle.lc_base.specs.declared.row.Row.{Row}
+use Rattle.lc_base.specs.History.{latest, scan, answer_of}
+use Rattle.lc_base.specs.Parts.{question}
+use Rattle.lineage_host.specs.Bodiless.{IsButForBody}
+use Rattle.row_ancestors.specs.Ancestors.{deps_of}
+use Rattle.lineage_trace.specs.Finding.{derived_in, derived_of, deps_told, IsButForDeps}
+
+pub derived_told : (rows : List Row) (key : List ℕ) (at : ℕ)
+    → derived_in (scan rows (question Back key at)) ≡ option_map derived_of (latest rows key at)
+derived_told rows key at = go (latest rows key at)
+  where
+    go : (found : Option Row)
+        → derived_in (answer_of rows (question Back key at) found) ≡ option_map derived_of found
+    go None = refl
+    go (Some row) = refl
+
+pub but_for_deps : (rows : List Row) (key : List ℕ) (at : ℕ) (answer : Answer)
+    → IsButForBody (scan rows (question Back key at)) answer
+    → IsButForDeps (latest rows key at) (derived_in answer)
+but_for_deps rows key at answer = go (latest rows key at)
+  where
+    go : (found : Option Row) → IsButForBody (answer_of rows (question Back key at) found) answer
+        → IsButForDeps found (derived_in answer)
+    go None is = ap derived_in is
+    go (Some row) is = (is.0, ap derived_in is.1)
+
+pub deps_back : (found : Option Row) → deps_told (option_map derived_of found) ≡ deps_of found
+deps_back None = refl
+deps_back (Some row) = refl

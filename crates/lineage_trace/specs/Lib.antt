@@ -1,0 +1,4 @@
+pub mod Wanted
+pub mod Finding
+pub mod Counting
+pub mod Tracing

@@ -1,0 +1,114 @@
+//! One lookup: what a version was derived from directly.
+
+ghost use Rattle.std.specs.{
+  Prelude.{◌≡◌, ◌≤◌, ◌+◌, true, length, IfOk, OnOk, IsErrOf},
+  Option.{option_map},
+};
+ghost use Rattle.lc_base.specs.History.{latest};
+ghost use Rattle.skip_links.specs.Paths.{path};
+ghost use Rattle.entry_store.specs.Steps.{raised_count};
+ghost use Rattle.scratch_model.specs.Scratch.{is_known};
+ghost use Rattle.merkle_dag.specs.{
+  Ledger.{most_looked_at},
+  Lineage.{AgreesWith, LeavesLineage},
+};
+ghost use Rattle.row_ancestors.specs.Ancestors.{itself, all_inserted, deps_of};
+ghost use Rattle.lineage_trace.specs.Finding.{derived_in, derived_of, deps_told, IsButForDeps};
+
+use crate::wanted::{Wanted, insert_all};
+use lc_base::{Answer, Dep, DepList, HostError, Key, Kind, Memory, Query};
+use lineage_host::answer;
+use merkle_dag::{Lineage, Steps};
+use scratch_model::Scratch;
+use std::alloc::Global;
+
+/// A version: the number of its block, and what it was derived from directly.
+#[derive(Drop)]
+pub(crate) struct Derived {
+    pub block: u32,
+    pub deps: DepList,
+}
+
+/// What an answer to a question about dependencies says; `None` if there is no version.
+fn derived_in(answer: Answer) -> Option<Derived>
+    ensures { result ≡ derived_in answer }
+{
+    match answer {
+        Answer::Back { block, deps } => Some(Derived { block, deps }),
+        Answer::Nothing => None,
+        Answer::Hist { .. } => None,
+        Answer::Fwd { .. } => None,
+    }
+}
+
+/// The newest version of a key in the blocks up to `at`; `None` if there is none.
+pub(crate) fn look_up<S: Scratch>(
+    alloc: Global,
+    lineage: &mut Lineage,
+    scratch: &mut S,
+    key: &Key,
+    at: u32,
+    steps: &mut Steps,
+) -> Result<Option<Derived>, HostError>
+    requires agrees { AgreesWith lineage.old (S.state scratch.old) }
+    // If it is known which bytes the device holds:
+    ensures derived { is_known (S.state scratch.old) ≡ true → IfOk result
+        (λ found. found ≡ option_map derived_of (latest lineage.old.rows key.now at)) }
+    // Whether that is known or not:
+    ensures always { IfOk result (IsButForDeps (latest lineage.old.rows key.now at)) }
+    ensures count { steps.new ≡ raised_count steps.old
+        (length (path lineage.old.rows key.now at)) }
+    ensures few { steps.new ≤ steps.old + most_looked_at lineage.old.digests }
+    ensures leaves { LeavesLineage S.state S.scratch_faults lineage.old scratch.old lineage.new
+        scratch.new (IsErrOf result HostError.Fault) }
+{
+    let query = Query {
+        kind: Kind::Back,
+        key: *key,
+        at,
+    };
+    match answer(alloc, lineage, scratch, &query, steps) {
+        Ok(told) => Ok(derived_in(told)),
+        Err(error) => Err(error),
+    }
+}
+
+/// Inserts what was found.
+fn insert_found(wanted: &mut Wanted, found: &Option<Derived>) -> Result<(), Memory>
+    ensures { OnOk result (wanted.new ≡ all_inserted itself (deps_told found.now) wanted.old) }
+{
+    match found {
+        None => Ok(()),
+        Some(derived) => insert_all(wanted, derived.deps.as_slice()),
+    }
+}
+
+/// Inserts what a version was derived from directly.
+pub(crate) fn insert_deps_of<S: Scratch>(
+    alloc: Global,
+    lineage: &mut Lineage,
+    scratch: &mut S,
+    wanted: &mut Wanted,
+    version: &Dep,
+    steps: &mut Steps,
+) -> Result<(), HostError>
+    requires agrees { AgreesWith lineage.old (S.state scratch.old) }
+    // If it is known which bytes the device holds:
+    ensures wanted { is_known (S.state scratch.old) ≡ true → OnOk result
+        (wanted.new ≡ all_inserted itself
+        (deps_of (latest lineage.old.rows version.now.key version.now.block)) wanted.old) }
+    // Whether that is known or not:
+    ensures count { steps.new ≡ raised_count steps.old
+        (length (path lineage.old.rows version.now.key version.now.block)) }
+    ensures few { steps.new ≤ steps.old + most_looked_at lineage.old.digests }
+    ensures leaves { LeavesLineage S.state S.scratch_faults lineage.old scratch.old lineage.new
+        scratch.new (IsErrOf result HostError.Fault) }
+{
+    match look_up(alloc, lineage, scratch, &version.key, version.block, steps) {
+        Ok(found) => {
+            insert_found(wanted, &found)?;
+            Ok(())
+        }
+        Err(error) => Err(error),
+    }
+}

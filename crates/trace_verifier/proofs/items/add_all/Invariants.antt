@@ -1,0 +1,10 @@
+use Rattle.std.proofs.Common.{◌≡◌, length}
+use Rattle.trace_checks.specs.Checks.{with_deps}
+use Rattle.trace_verifier.proofs.items.add_all.Given as goal
+
+abbrev pub invariant-loop-dep : goal.invariant-loop-dep
+invariant-loop-dep l =
+    with_deps l.number l.block l.deps l.wanted ≡ with_deps l.number l.block l.fn.deps l.fn.wanted
+
+abbrev pub decreases-loop-dep : goal.decreases-loop-dep
+decreases-loop-dep l = length l.deps

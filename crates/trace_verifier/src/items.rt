@@ -1,0 +1,140 @@
+//! The items are checked one after another. What is wanted before an item is kept in order, so that
+//! the version that the item must be is found at once.
+
+ghost use Rattle.std.specs.{
+  Prelude.{◌≡◌, ◌≤◌, ◌++◌, ◌∷◌, [], length, OnOk},
+  Option.{option_map},
+};
+ghost use Rattle.lc_base.specs.{Answers.{Answers}, declared.limits.TheConstants.{MAX_ROWS}};
+ghost use Rattle.trace_checks.specs.Checks.{with_deps, after_item, version_of_item};
+ghost use Rattle.trace_wanted.specs.Errors.{fault_told};
+ghost use Rattle.trace_verifier.specs.{
+  Starting.{wanted_in},
+  Items.{item_fault, items_passed},
+};
+
+use entry_views::{BodyDepView, BodyView};
+use lc_base::{Dep, DepList, Memory};
+use proof_verifier::{body_digest, header_digest};
+use prov_entry::BodyDep;
+use std::alloc::Global;
+use trace_checks::TraceReject;
+use trace_views::{ItemView, ItemsView};
+use trace_wanted::{TraceError, Wanted};
+
+/// Inserts all dependencies of the item with this number, in the order of its body.
+fn add_all(
+    number: u32,
+    block: u32,
+    deps: BodyDepView,
+    wanted: &mut Wanted,
+) -> Result<(), TraceError>
+    ensures { Answers (λ done. wanted.new) fault_told result
+        (with_deps number block deps.entry wanted.old) }
+{
+    let mut deps = deps;
+    while let Some(dep) = deps.next() {
+        wanted.add(number, block, &dep)?;
+    }
+    Ok(())
+}
+
+/// What the start wants, given the block of its version and its body: nothing if there is none.
+pub(crate) fn wanted_by_start(
+    alloc: Global,
+    block: Option<u32>,
+    body: Option<&BodyView>,
+) -> Result<Wanted, TraceError>
+    ensures { Answers (λ wanted. wanted) fault_told result
+        (wanted_in block (option_map (λ body. body.now.value) body.entry)) }
+{
+    let mut wanted = Wanted::new(alloc);
+    let Some(block) = block else {
+        return Ok(wanted);
+    };
+    let Some(body) = body else {
+        return Ok(wanted);
+    };
+    add_all(0, block, body.deps(), &mut wanted)?;
+    Ok(wanted)
+}
+
+/// What is wrong with an item where this is the last version that is wanted.
+fn item_fault(number: u32, item: &ItemView, last: &BodyDep) -> Option<TraceReject>
+    ensures { result ≡ item_fault number item.now last.now }
+{
+    if last.key.as_bytes() != item.header.fields().key.as_bytes() {
+        return Some(TraceReject::Order { item: number });
+    }
+    if last.block != item.header.fields().block {
+        return Some(TraceReject::Order { item: number });
+    }
+    let computed = header_digest(&item.header);
+    if computed.0 != last.digest.0 {
+        return Some(TraceReject::Header {
+            item: number,
+            computed,
+        });
+    }
+    let computed = body_digest(&item.body);
+    if computed.0 != item.header.fields().body.0 {
+        return Some(TraceReject::Body {
+            item: number,
+            computed,
+        });
+    }
+    None
+}
+
+/// Checks the item with this number: it must be the last version that is wanted, which is wanted no
+/// more; what it was derived from directly is.
+fn check_item(number: u32, item: &ItemView, wanted: &mut Wanted) -> Result<(), TraceError>
+    ensures { Answers (λ done. wanted.new) fault_told result
+        (after_item number item.now wanted.old) }
+{
+    let Some(last) = wanted.take_last() else {
+        return Err(TraceError::Rejected(TraceReject::Extra { item: number }));
+    };
+    if let Some(fault) = item_fault(number, item, &last) {
+        return Err(TraceError::Rejected(fault));
+    }
+    let block = item.header.fields().block;
+    add_all(number, block, item.body.deps(), wanted)
+}
+
+/// Appends the version of an item.
+fn push_version(versions: &mut DepList, item: &ItemView) -> Result<(), Memory>
+    ensures { OnOk result (versions.new ≡ versions.old ++ version_of_item item.now ∷ []) }
+{
+    let header = item.header.fields();
+    versions.push(Dep {
+        key: header.key,
+        block: header.block,
+    })
+}
+
+/// Checks all items, given what is wanted before the first one, and returns their versions in their
+/// order. Nothing must be wanted after the last one.
+pub(crate) fn check_items(
+    alloc: Global,
+    items: ItemsView,
+    wanted: Wanted,
+) -> Result<DepList, TraceError>
+    requires { length items ≤ MAX_ROWS }
+    ensures { Answers (λ versions. versions) fault_told result
+        (items_passed items.entry wanted) }
+{
+    let mut items = items;
+    let mut wanted = wanted;
+    let mut versions = DepList::new(alloc);
+    let mut number = 1;
+    while let Some(item) = items.next() {
+        check_item(number, &item, &mut wanted)?;
+        push_version(&mut versions, &item)?;
+        number += 1;
+    }
+    match wanted.take_last() {
+        None => Ok(versions),
+        Some(_) => Err(TraceError::Rejected(TraceReject::Missing { item: number })),
+    }
+}

@@ -1,0 +1,152 @@
+//! The checks of a proof of ancestors run in a fixed order: the bytes, the start, what the start
+//! wants, the items.
+
+ghost use Rattle.std.specs.Prelude.{◌≡◌, ◌≤◌, ◌<◌, ◌^◌, ℕ, List, Ok, Err, reverse, length};
+ghost use Rattle.std.specs.Prelude.{IfOk, IfErr, IsErrAnd, IsSomeAnd};
+ghost use Rattle.lc_base.specs.{
+  Answers.{Answers},
+  declared.digest.Digest.{Digest as DigestValue},
+  declared.limits.TheConstants.{MAX_ROWS},
+  declared.row.Row.{Row},
+};
+ghost use Rattle.proof_checks.specs.{
+  Checks.{verdict},
+  root_laws.Root.{root_of},
+  root_laws.TypedLedger.{IsTypedHistory},
+};
+ghost use Rattle.trace_checks.specs.{
+  Checks.{start_query, trace_verdict},
+  TraceTexts.{IsTraceProof, trace_texts},
+  Spelling.{SpellsTrace},
+  Soundness.{TracesOrClashes},
+  declared.trace_proof.TraceProof.{TraceProof as TraceValue},
+  declared.reject.TraceReject.TheVariants.{Start},
+};
+ghost use Rattle.trace_views.specs.Reading.{trace_in};
+ghost use Rattle.trace_wanted.specs.{
+  Errors.{fault_told},
+  declared.error.TraceError.TheVariants.{Rejected},
+};
+ghost use Rattle.trace_verifier.specs.{
+  Items.{shown_in, shown_after},
+  Verdicts.{fault_of_view, malformed_at, trace_verdict_on},
+};
+
+use crate::items::{check_items, wanted_by_start};
+use crate::start::judge_start;
+use lc_base::{DepList, Digest, Key};
+use proof_views::ViewError;
+use row_ancestors::Trace;
+use std::alloc::Global;
+use trace_checks::TraceReject;
+use trace_views::{TraceView, view_trace};
+use trace_wanted::TraceError;
+
+/// The fault for bytes that aren't a proof of ancestors.
+fn fault_of_view(error: ViewError) -> TraceReject
+    ensures { result ≡ fault_of_view error }
+{
+    match error {
+        ViewError::Malformed { at } => TraceReject::Malformed { at },
+    }
+}
+
+/// The versions from the last to the first.
+fn reversed(versions: DepList) -> DepList
+    ensures { result ≡ reverse versions }
+{
+    let mut versions = versions.into_vec();
+    versions.reverse();
+    DepList::from_vec(versions)
+}
+
+/// What is shown of a version in this block, given the versions of its items in their order; `None`
+/// if there is no version.
+fn shown(block: Option<u32>, versions: DepList) -> Option<Trace>
+    ensures { result ≡ shown_in block versions }
+{
+    match block {
+        None => None,
+        Some(block) => Some(Trace {
+            block,
+            ancestors: reversed(versions),
+        }),
+    }
+}
+
+/// What a proof shows whose start is of a version in this block, or of none; or the first check
+/// after those of the start that fails.
+fn judge_items(
+    alloc: Global,
+    block: Option<u32>,
+    trace: &TraceView,
+) -> Result<Option<Trace>, TraceError>
+    requires { length trace.now.items ≤ MAX_ROWS }
+    ensures { Answers (λ shown. shown) fault_told result
+        (shown_after block trace.now.start.body trace.now.items) }
+{
+    let start = trace.start();
+    let wanted = wanted_by_start(alloc, block, start.body())?;
+    let versions = check_items(alloc, trace.items(), wanted)?;
+    Ok(shown(block, versions))
+}
+
+/// What a proof that was read shows, or the first check that fails.
+fn judge_trace(
+    alloc: Global,
+    root: &Digest,
+    key: &Key,
+    at: u32,
+    trace: &TraceView,
+) -> Result<Option<Trace>, TraceError>
+    requires { IsTraceProof trace.now }
+    ensures judged { Answers (λ shown. shown) fault_told result
+        (trace_verdict root.now.0 key.now at trace.now) }
+    ensures start { IfErr (verdict root.now.0 (start_query key.now at) trace.now.start)
+        (λ fault. result ≡ Err (Rejected (Start fault))) }
+{
+    match judge_start(root, key, at, trace.start()) {
+        Ok(block) => judge_items(alloc, block, trace),
+        Err(fault) => Err(TraceError::Rejected(TraceReject::Start(fault))),
+    }
+}
+
+/// Checks a proof of all ancestors of the last version of a key in a block up to `at`, for one who
+/// has the root at a block. Returns the block of that version and its ancestors, `None` if there is
+/// no such version, or the first check that fails.
+pub fn verify_trace(
+    alloc: Global,
+    root: &Digest,
+    key: &Key,
+    at: u32,
+    bytes: &[u8],
+) -> Result<Option<Trace>, TraceError>
+    // If the bytes are such a proof, what it shows is returned exactly if no check fails; else the
+    // first check that fails is reported, unless memory ran out.
+    ensures spelled { (given : TraceValue) → SpellsTrace bytes.now given
+        → Answers (λ shown. shown) fault_told result (trace_verdict root.now.0 key.now at given) }
+    // A start that isn't accepted is reported whatever memory there is.
+    ensures start { (given : TraceValue) → SpellsTrace bytes.now given
+        → IfErr (verdict root.now.0 (start_query key.now at) given.start)
+        (λ fault. result ≡ Err (Rejected (Start fault))) }
+    // If they aren't, so is the offset of the first invalid field.
+    ensures malformed { ((given : TraceValue) → SpellsTrace bytes.now given → ⊥)
+        → IsErrAnd result (λ error.
+        IsSomeAnd (malformed_at error) (λ offset. trace_in bytes.now ≡ Err offset)) }
+    // What is shown are all ancestors of the version in every typed history that has the root at
+    // some block, up to that block; or a text of the proof and one of the history differ and have
+    // one digest.
+    ensures sound { (given : TraceValue) → SpellsTrace bytes.now given
+        → (rows : List Row) (digests : List DigestValue) (block : ℕ) → IsTypedHistory rows
+        → block < 2 ^ 32 → root_of rows digests block ≡ root.now.0
+        → IfOk result (λ shown.
+        TracesOrClashes rows digests block key.now at (trace_texts given) shown) }
+    // The result is that of the function that defines what bytes show.
+    ensures exact { Answers (λ shown. shown) fault_told result
+        (trace_verdict_on root.now.0 key.now at bytes.now) }
+{
+    match view_trace(bytes) {
+        Ok(trace) => judge_trace(alloc, root, key, at, &trace),
+        Err(error) => Err(TraceError::Rejected(fault_of_view(error))),
+    }
+}
