@@ -2,6 +2,7 @@
 """Checks a proof of LineageChain, and prints the answer that it proves or why it is refused.
 
     verify.py ROOT KIND KEY BLOCK < PROOF     checks a proof
+    verify.py trace ROOT KEY BLOCK < PROOF    checks a proof of all ancestors
     verify.py --show < PROOF                  shows what a proof holds, and checks nothing of it
     verify.py --help                          prints this
 
@@ -10,6 +11,7 @@ PROOF is in hex. docs/proofs.md has the bytes of a proof, the checks in their or
 This file was written from that page alone and shares no code with the program. It needs nothing but
 Python 3 and its standard library.
 """
+import bisect
 import hashlib
 import os
 import re
@@ -22,9 +24,11 @@ MAX_KEY_BYTES = 64
 MAX_TEXT_BYTES = 8_192
 MAX_LINKS = 32
 MAX_DEPS = 64
+MAX_ITEMS = 2**32 - 2
 DIGEST_BYTES = 32
 
 MAGIC = b"LCP1"
+TRACE_MAGIC = b"LCT1"
 KINDS = ["hist", "back", "fwd"]
 HIST, BACK, FWD = range(3)
 INT, TEXT, GONE = range(3)
@@ -102,10 +106,25 @@ class Header(NamedTuple):
     links: list
 
 
+class Dep(NamedTuple):
+    """A version that a body names: its key and its block, and the digest of its header."""
+
+    key: bytes
+    block: int
+    digest: bytes
+
+    def place(self):
+        return self.key, self.block
+
+
 class Body(NamedTuple):
     text: bytes
     value: str
     deps: list
+
+    def places(self):
+        """The key and the block of each dependency."""
+        return [dep.place() for dep in self.deps]
 
 
 class Proof(NamedTuple):
@@ -121,22 +140,48 @@ class Proof(NamedTuple):
     uses: object
 
 
+class Item(NamedTuple):
+    """An ancestor."""
+
+    header: Header
+    body: Body
+
+    def place(self):
+        return self.header.key, self.header.block
+
+
+class Trace(NamedTuple):
+    """A proof of all ancestors: the proof of what a version was derived from, and its ancestors, the last one
+    first."""
+
+    start: Proof
+    items: list
+
+
 # ---- reading
 
 
 class Fields:
-    """The bytes of a proof, read field by field."""
+    """The bytes of a proof, read field by field. The first of them has the offset `first` in the input."""
 
-    def __init__(self, proof):
-        self.proof, self.offset = proof, 0
+    def __init__(self, proof, first=0):
+        self.proof, self.offset, self.first = proof, 0, first
+
+    def malformed(self):
+        return rejected(f"malformed {self.first + self.offset}")
 
     def take(self, size, is_good=lambda field: True):
         """The next field; a proof is malformed where it is cut short or breaks its rule."""
         field = self.proof[self.offset : self.offset + size]
         if len(field) < size or not is_good(field):
-            raise rejected(f"malformed {self.offset}")
+            raise self.malformed()
         self.offset += size
         return field
+
+    def end(self):
+        """Nothing follows the last field."""
+        if self.offset < len(self.proof):
+            raise self.malformed()
 
     def number(self, size, least=0, most=None):
         def is_good(field):
@@ -188,9 +233,7 @@ class Fields:
         return self.key(), self.number(4)
 
     def dependency(self):
-        place = self.place()
-        self.digest()
-        return place
+        return Dep(*self.place(), self.digest())
 
     def body(self):
         start = self.offset
@@ -212,10 +255,22 @@ class Fields:
         body = self.body() if has_body else None
         has_uses = has_body and question.kind == FWD
         uses = [self.place() for _ in range(self.number(4))] if has_uses else None
-        if self.offset < len(self.proof):
-            raise rejected(f"malformed {self.offset}")
+        self.end()
         place = root_block, block_digest, leaf_count, leaf_index
         return Proof(question, *place, leaf, audit, headers, body, uses)
+
+    def start(self):
+        """The proof within a proof of all ancestors, behind the number of its bytes."""
+        size = self.number(4)
+        first = self.first + self.offset
+        return Fields(self.take(size), first).whole_proof()
+
+    def whole_trace(self):
+        self.take(len(TRACE_MAGIC), lambda field: field == TRACE_MAGIC)
+        start = self.start()
+        items = [Item(self.header(), self.body()) for _ in range(self.number(4, most=MAX_ITEMS))]
+        self.end()
+        return Trace(start, items)
 
 
 # ---- the tree
@@ -341,9 +396,76 @@ def told(proof):
     kind = proof.question.kind
     if kind == HIST:
         return [f"block {version.block} tx {version.tx} {proof.body.value}"]
-    word, places = ("deps", proof.body.deps) if kind == BACK else ("uses", proof.uses)
+    word, places = ("deps", proof.body.places()) if kind == BACK else ("uses", proof.uses)
+    return listed(version, word, places)
+
+
+def listed(version, word, places):
+    """A line with the block of a version and a count, and a line for each key and block."""
     lines = [f"{key.decode('ascii')} {block}" for key, block in places]
     return [f"block {version.block} {word} {len(places)}", *lines]
+
+
+# ---- the checks of all ancestors
+
+
+class Wanted:
+    """The versions that were named and whose items have not come, each with the digest of its header."""
+
+    def __init__(self):
+        # By block and then by key: the item that comes next is that of the last one.
+        self.order, self.digests = [], {}
+
+    def add(self, block, deps, number):
+        """What a version in this block was derived from, which the item of this number names."""
+        for dep in deps:
+            place = dep.block, dep.key
+            if dep.block >= block:
+                raise rejected(f"trace late {number}")
+            if self.digests.get(place, dep.digest) != dep.digest:
+                raise rejected(f"trace two {number}")
+            if place not in self.digests:
+                bisect.insort(self.order, place)
+                self.digests[place] = dep.digest
+
+    def take(self, item, number):
+        """Takes the last one away, of which the item must be, and answers the digest of its header."""
+        if not self.order:
+            raise rejected(f"trace extra {number}")
+        if (item.header.block, item.header.key) != self.order[-1]:
+            raise rejected(f"trace order {number}")
+        return self.digests.pop(self.order.pop())
+
+
+def check_item(item, number, expected):
+    """The item has the header of this digest, and the body that the header names."""
+    header = sha256(HEADER, item.header.text)
+    if header != expected:
+        raise rejected(f"trace header {number} {header.hex()}")
+    body = sha256(BODY, item.body.text)
+    if body != item.header.body:
+        raise rejected(f"trace body {number} {body.hex()}")
+
+
+def check_items(trace):
+    """The items are all that the version of the start was made from."""
+    wanted = Wanted()
+    if trace.start.body:
+        wanted.add(trace.start.headers[-1].block, trace.start.body.deps, 0)
+    for number, item in enumerate(trace.items, 1):
+        check_item(item, number, wanted.take(item, number))
+        wanted.add(item.header.block, item.body.deps, number)
+    if wanted.order:
+        raise rejected(f"trace missing {len(trace.items) + 1}")
+
+
+def trace_answer(trace, root, question):
+    """The lines of all ancestors that a proof proves."""
+    answer(trace.start, root, question)
+    check_items(trace)
+    if trace.start.body is None:
+        return ["none"]
+    return listed(trace.start.headers[-1], "ancestors", [item.place() for item in reversed(trace.items)])
 
 
 # ---- what a proof holds
@@ -353,8 +475,19 @@ def question_text(question):
     return f"{KINDS[question.kind]} {question.key.decode('ascii')} {question.block}"
 
 
-def shown(proof):
-    """What a proof holds, line by line."""
+def header_lines(header):
+    lines = [f"header of block {header.block} tx {header.tx}: {sha256(HEADER, header.text).hex()}"]
+    lines.append(f"  body {header.body.hex()}")
+    lines.append(f"  closes {header.closed.count} uses, digest {header.closed.digest.hex()}")
+    return lines + [f"  links to block {link.block}, header {link.digest.hex()}" for link in header.links]
+
+
+def body_lines(body):
+    lines = [f"body: {body.value}, derived from {len(body.deps)} versions"]
+    return lines + [f"  {dep.key.decode('ascii')} {dep.block}" for dep in body.deps]
+
+
+def proof_lines(proof):
     leaf, question = proof.leaf, question_text(proof.question)
     key = f"key {leaf.key.decode('ascii')}" if leaf.key else "before all keys"
     following = f"next key {leaf.next_key.decode('ascii')}" if leaf.next_key else "no next key"
@@ -364,33 +497,49 @@ def shown(proof):
     lines.append(f"  its uses {leaf.uses.count}, digest {leaf.uses.digest.hex()}")
     lines += [f"audit hash {digest.hex()}" for digest in proof.audit]
     for header in proof.headers:
-        lines.append(f"header of block {header.block} tx {header.tx}: {sha256(HEADER, header.text).hex()}")
-        lines.append(f"  body {header.body.hex()}")
-        lines.append(f"  closes {header.closed.count} uses, digest {header.closed.digest.hex()}")
-        lines += [f"  links to block {link.block}, header {link.digest.hex()}" for link in header.links]
+        lines += header_lines(header)
     if proof.body:
-        lines.append(f"body: {proof.body.value}, derived from {len(proof.body.deps)} versions")
-        lines += [f"  {key.decode('ascii')} {block}" for key, block in proof.body.deps]
+        lines += body_lines(proof.body)
     if proof.uses is not None:
         lines.append(f"uses: {len(proof.uses)} versions were derived from it")
         lines += [f"  {key.decode('ascii')} {block}" for key, block in proof.uses]
-    lines.append(f"leads to the root {root_of(proof).hex()}")
-    return [*lines, f"nothing of this was checked: verify.py ROOT {question} does that"]
+    return [*lines, f"leads to the root {root_of(proof).hex()}"]
+
+
+def item_lines(number, item):
+    key = item.header.key.decode("ascii")
+    return [f"item {number}: {key} {item.header.block}", *header_lines(item.header), *body_lines(item.body)]
+
+
+def shown(proof):
+    """What a proof holds, line by line."""
+    if isinstance(proof, Trace):
+        start, question = proof.start, proof.start.question
+        words = f"trace ROOT {question.key.decode('ascii')} {question.block}"
+    else:
+        start, words = proof, f"ROOT {question_text(proof.question)}"
+    lines = proof_lines(start)
+    if isinstance(proof, Trace):
+        for number, item in enumerate(proof.items, 1):
+            lines += item_lines(number, item)
+    return [*lines, f"nothing of this was checked: verify.py {words} does that"]
 
 
 # ---- words and streams
 
 
 def read_words(words):
-    """The root and the question that the words are."""
+    """The root and the question that the words are, and whether they ask for all ancestors: the question is then
+    what the version was derived from."""
     words = [os.fsencode(word) for word in words]
+    is_trace = words[:1] == [b"trace"]
     if len(words) == 4:
-        root, kind, key, block = words
+        root, kind, key, block = [words[1], b"back", *words[2:]] if is_trace else words
         kinds = [name.encode() for name in KINDS]
         patterns = (ROOT_WORD, root), (KEY_WORD, key), (NUMBER_WORD, block)
         is_formed = kind in kinds and all(pattern.fullmatch(word) for pattern, word in patterns)
         if is_formed and int(block) <= MAX_NUMBER:
-            return bytes.fromhex(root.decode()), Question(kinds.index(kind), key, int(block))
+            return bytes.fromhex(root.decode()), Question(kinds.index(kind), key, int(block)), is_trace
     raise Stop("usage", USAGE)
 
 
@@ -419,18 +568,30 @@ def read_hex(source):
     return bytes.fromhex(digits.decode("ascii"))
 
 
+def read_proof(proof, is_trace):
+    fields = Fields(proof)
+    return fields.whole_trace() if is_trace else fields.whole_proof()
+
+
+def proved(proof, root, question):
+    """The lines of the answer, or of all ancestors, that a proof proves."""
+    return trace_answer(proof, root, question) if isinstance(proof, Trace) else answer(proof, root, question)
+
+
 def outcome(words):
     """The lines that are printed, and the status."""
     if words == ["--help"]:
         return __doc__.rstrip("\n").split("\n"), DONE
     try:
         if words == ["--show"]:
-            return shown(Fields(read_hex(read_input())).whole_proof()), DONE
-        root, question = read_words(words)
-        proof = Fields(read_hex(read_input())).whole_proof()
-        if proof.question != question:
-            note(f"the proof is of another question: {question_text(proof.question)}")
-        return answer(proof, root, question), DONE
+            proof = read_hex(read_input())
+            return shown(read_proof(proof, proof.startswith(TRACE_MAGIC))), DONE
+        root, question, is_trace = read_words(words)
+        proof = read_proof(read_hex(read_input()), is_trace)
+        own = proof.start.question if is_trace else proof.question
+        if own != question:
+            note(f"the proof is of another question: {question_text(own)}")
+        return proved(proof, root, question), DONE
     except Stop as stop:
         return [stop.line] if stop.line else [], stop.status
     except MemoryError:

@@ -17,6 +17,7 @@ from cases.log_cases import (
 )
 from cases.proof_cases import proof_of
 from cases.root_cases import History, Row, block_digests, roots
+from cases.trace_cases import trace_proof_of
 
 # Of three blocks the first is that of SET_FILE, the second has no transaction, and the row of the third is derived from
 # that of the first.
@@ -383,8 +384,16 @@ def made_proof(kind, key, at):
     return proof_of(History(ROWS), digest, kind, key, at, HEAD_BLOCK).hex() + "\n"
 
 
+def made_trace(key, at):
+    """The proof of all ancestors of a version with that root, in hex and a line end."""
+    digest = block_digests(FRAMES)[HEAD_BLOCK]
+    return trace_proof_of(History(ROWS), digest, key, at, HEAD_BLOCK).hex() + "\n"
+
+
 USES = ["block 0 uses 1\n", "raw/b 2\n"]
 PROOF = made_proof("fwd", "raw/a", 0)
+ANCESTORS = ["block 2 ancestors 1\n", "raw/a 0\n"]
+TRACE_PROOF = made_trace("raw/b", 2)
 # Commands over the log of the three blocks, and the lines of each. They read nothing.
 QUESTIONS = {
     "hist raw/b": ["block 2 tx 0 int 2\n"],
@@ -393,7 +402,11 @@ QUESTIONS = {
     "root 1": [f"root 1 {ROOTS[1]}\n"],
     f"prove fwd raw/a 0 {HEAD_BLOCK}": [PROOF],
     f"prove hist raw/c 0 {HEAD_BLOCK}": [made_proof("hist", "raw/c", 0)],
+    "trace raw/b 2": ANCESTORS,
+    "trace raw/c 2": ["none\n"],
+    f"trace prove raw/b 2 {HEAD_BLOCK}": [TRACE_PROOF],
 }
+TRACE_VERIFY = f"trace verify {ROOTS[HEAD_BLOCK]} raw/b 2"
 VERIFY = f"verify {ROOTS[HEAD_BLOCK]} fwd raw/a 0"
 EXPOSE = f"expose {ROOTS[HEAD_BLOCK]} fwd raw/a 0 {HEAD_BLOCK}"
 PIECE = 16
@@ -413,11 +426,15 @@ def failing_questions():
 
 
 def failing_proofs():
-    """`verify` and `expose` with each of their pulls, their reads and their tells failing."""
-    source = PROOF.encode("ascii")
-    size = len(source)
+    """`verify`, `expose` and `trace verify` with each of their pulls, their reads and their tells failing."""
     opened = reads_of(LOG)
-    for words, image, lines, reads in [(VERIFY, b"hello", USES, 0), (EXPOSE, LOG, ["no clash\n"], opened)]:
+    for words, proof, image, lines, reads in [
+        (VERIFY, PROOF, b"hello", USES, 0),
+        (EXPOSE, PROOF, LOG, ["no clash\n"], opened),
+        (TRACE_VERIFY, TRACE_PROOF, b"hello", ANCESTORS, 0),
+    ]:
+        source = proof.encode("ascii")
+        size = len(source)
         # One more pull finds the end.
         pulls = -(-size // PIECE) + 1
         for pull in range(pulls):

@@ -30,7 +30,8 @@ FORGED = 99
 @dataclasses.dataclass
 class Forgery:
     """A proof of a wrong answer; the text of the verifier that is changed, and what it is changed to, for
-    the proof to be taken; and how the line begins by which it is refused."""
+    the proof to be taken; how the line begins by which it is refused; and the root to which it leads, where that
+    isn't the root of the chain."""
 
     name: str
     question: tuple
@@ -38,6 +39,7 @@ class Forgery:
     old: str
     new: str
     refused: str
+    root: object = None
 
 
 def spelled(history, question, leaf_key, headers, body=b"", uses=None):
@@ -157,42 +159,49 @@ def verifier_of(source):
     return module
 
 
-def told_by(verifier, proof, root, question):
+def told_by(verifier, proof, root, question, is_trace):
     kind, key, at = question
     asked = verifier.Question(KINDS.index(kind), key.encode(), at)
     try:
-        return verifier.answer(verifier.Fields(proof).whole_proof(), root, asked)
+        return verifier.proved(verifier.read_proof(proof, is_trace), root, asked)
     except verifier.Stop as stop:
         return [stop.line]
 
 
-def wrong_forgeries():
-    """What is wrong with the forgeries: there is nothing where each shows what it is to show."""
+def wrong_with(forgery, root, made, right, is_trace=False):
+    """What is wrong with a forgery over a chain with this root, where the proof as it is made has the right answer:
+    there is nothing where it shows what it is to show."""
     with open(f"{TOP}/verifiers/verify.py", encoding="utf-8") as file:
         source = file.read()
-    history = History(ROWS)
-    root = history.root(HEAD, BLOCK_DIGEST)
     whole = verifier_of(source)
+    if told_by(whole, made, root, forgery.question, is_trace) != right:
+        yield f"{forgery.name}: the verifier doesn't give the right answer"
+    root = forgery.root or root
+    [line, *_] = told_by(whole, forgery.proof, root, forgery.question, is_trace)
+    if not line.startswith(f"rejected {forgery.refused}"):
+        yield f"{forgery.name}: the verifier tells {line!r}"
+    if source.count(forgery.old) != 1:
+        yield f"{forgery.name}: the check stands {source.count(forgery.old)} times in the verifier"
+    weakened = verifier_of(source.replace(forgery.old, forgery.new))
+    given = told_by(weakened, forgery.proof, root, forgery.question, is_trace)
+    if given == right or given[0].startswith("rejected"):
+        yield f"{forgery.name}: without the check it tells {given!r}"
+
+
+def wrong_forgeries(history):
+    """How many forgeries there are, and what is wrong with them."""
+    root, count, wrong = history.root(HEAD, BLOCK_DIGEST), 0, []
     for forgery in forgeries(history):
         kind, key, at = forgery.question
         right = answer_of(ROWS, kind, key, at, HEAD)
         made = proof_of(history, BLOCK_DIGEST, kind, key, at, HEAD)
-        if told_by(whole, made, root, forgery.question) != right:
-            yield f"{forgery.name}: the verifier doesn't give the right answer"
-        [line, *_] = told_by(whole, forgery.proof, root, forgery.question)
-        if not line.startswith(f"rejected {forgery.refused}"):
-            yield f"{forgery.name}: the verifier tells {line!r}"
-        if source.count(forgery.old) != 1:
-            yield f"{forgery.name}: the check stands {source.count(forgery.old)} times in the verifier"
-        weakened = verifier_of(source.replace(forgery.old, forgery.new))
-        given = told_by(weakened, forgery.proof, root, forgery.question)
-        if given == right or given[0].startswith("rejected"):
-            yield f"{forgery.name}: without the check it tells {given!r}"
+        count, wrong = count + 1, [*wrong, *wrong_with(forgery, root, made, right)]
+    return count, wrong
 
 
 def check():
     """Whether each forgery shows what it is to show; prints which doesn't."""
-    count, wrong = len(list(forgeries(History(ROWS)))), list(wrong_forgeries())
+    count, wrong = wrong_forgeries(History(ROWS))
     for line in wrong:
         print(f"forged_proofs: {line}")
     print(f"forged_proofs: {count} forgeries, {len(wrong)} wrong")

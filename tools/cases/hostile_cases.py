@@ -7,6 +7,7 @@ tools/cases/block_reader.py.
 import itertools
 from typing import NamedTuple
 
+from cases import forged_traces
 from cases.block_files import (
     FIRST_VERSION, GONE, OK, OUT_OF_STEPS, SECOND_VERSION, block_file, calls, deploys, number, sets,
 )
@@ -18,19 +19,20 @@ from cases.log_cases import (
 )
 from cases.proof_cases import proof_of
 from cases.root_cases import History, Row, block_digests, roots
+from cases.trace_cases import spelled, trace_proof_of
 from cases.verifier import text_of, told_of
 from lineage.draft_faults import MAX_BUDGET, MAX_BUDGETS
 
 
 class Proved(NamedTuple):
-    """The words of `verify` with the root of a chain, and the proof of the answer."""
+    """The words of `verify` or of `trace verify` with the root of a chain, and the proof of the answer."""
 
     words: str
     proof: bytes
 
     def told(self, proof, begin):
         """What is told of a proof in place of this one, which begins with these words, and the status."""
-        lines, status = told_of(self.words.split()[1:], in_hex(proof))
+        lines, status = told_of(self.words.split(), in_hex(proof))
         assert lines[0].split()[: len(begin.split())] == begin.split(), (lines, begin)
         return text_of(lines), status
 
@@ -56,6 +58,12 @@ def proved(file, rows, kind, key, at, root_at):
     history, digest = History(rows), block_digests(frames_of(file))[root_at]
     root = history.root(root_at, digest).hex()
     return Proved(f"verify {root} {kind} {key} {at}", proof_of(history, digest, kind, key, at, root_at))
+
+
+def traced(file, rows, key, at, root_at):
+    history, digest = History(rows), block_digests(frames_of(file))[root_at]
+    root = history.root(root_at, digest).hex()
+    return Proved(f"trace verify {root} {key} {at}", trace_proof_of(history, digest, key, at, root_at))
 
 
 def put(text, offset, byte):
@@ -94,6 +102,26 @@ def made_proofs():
         assert length in (None, len(made.proof)) and made.told(made.proof, "") == (answer, DONE)
         line = made.proof.hex() + "\n"
         yield LogCase(f"prove {kind} {key} {at} {root_at}", log_of(file), line)
+        yield LogCase(made.words, b"", answer, file=line.encode("ascii"))
+
+
+# A chain, a key with its block and the root block, and what the version was made from.
+MADE_TRACES = [
+    (BANK_FILE, BANK_ROWS, ("bank/log", 3, 3), "block 2 ancestors 2\nraw/a 0\nbank/n 1\n"),
+    (BANK_FILE, BANK_ROWS, ("bank/n", 1, 3), "block 1 ancestors 1\nraw/a 0\n"),
+    (BANK_FILE, BANK_ROWS, ("raw/a", 3, 3), "block 0 ancestors 0\n"),
+    (BANK_FILE, BANK_ROWS, ("raw/z", 3, 3), "none\n"),
+    (BETWEEN_FILE, BETWEEN_ROWS, ("raw/f", 0, 0), "none\n"),
+]
+
+
+def made_traces():
+    """The same of all ancestors."""
+    for file, rows, (key, at, root_at), answer in MADE_TRACES:
+        made = traced(file, rows, key, at, root_at)
+        assert made.told(made.proof, "") == (answer, DONE)
+        line = made.proof.hex() + "\n"
+        yield LogCase(f"trace prove {key} {at} {root_at}", log_of(file), line)
         yield LogCase(made.words, b"", answer, file=line.encode("ascii"))
 
 
@@ -168,6 +196,64 @@ def other_paths():
     yield NEWEST_PROVED.case(NEWEST_PROVED.proof, "block 9 tx 0 int 2")
     assert NEWEST_PROVED.proof.endswith(newest_body)
     yield NEWEST_PROVED.case(NEWEST_PROVED.proof[: -len(newest_body)] + older_body, "rejected body")
+
+
+# ---- a proof of one ancestor
+
+
+# The proof of what the version was derived from begins at 8, and its magic, kind and question take 16 bytes; the count
+# of items stands before the one item, which is a header of 86 bytes, of which the last counts its links, and a body of
+# 10, of which the last counts its dependencies.
+TRACE_ROWS = [Row("raw/a", 0, 0, 5, []), Row("raw/b", 1, 0, 6, [("raw/a", 0)])]
+TRACE_FILE = block_file([[sets("raw/a", 5)], [sets("raw/b", 6, ["raw/a"])]])
+TRACED = traced(TRACE_FILE, TRACE_ROWS, "raw/b", 1, 1)
+ITEM_BYTES = 86 + 10
+
+
+def named_trace_changes():
+    """The proof as it is or with a change that is named, and how what is told of it begins."""
+    proof, size = TRACED.proof, len(TRACED.proof)
+    start_size = int.from_bytes(proof[4:8], "big")
+    assert size == 8 + start_size + 4 + ITEM_BYTES
+    start, item = proof[8 : 8 + start_size], proof[-ITEM_BYTES:]
+    count_at, item_at = 8 + start_size, size - ITEM_BYTES
+    yield proof, "block 1 ancestors 1"
+    yield start, "rejected malformed 0"
+    yield put(proof, 3, 0x32), "rejected malformed 0"
+    # The start is said to be shorter, and longer, and longer than all that follows.
+    yield put(proof, 7, proof[7] - 1), f"rejected malformed {8 + start_size - 32}"
+    yield put(proof, 7, proof[7] + 1), f"rejected malformed {8 + start_size}"
+    yield put(proof, 4, 1), "rejected malformed 8"
+    yield put(proof, 8 + 3, 0x32), "rejected malformed 8"
+    yield put(proof, 8 + 4, 3), f"rejected malformed {8 + 4}"
+    yield put(proof, 8 + 4, 0), "rejected query"
+    yield put(proof, 8 + 4, 2), f"rejected malformed {8 + start_size}"
+    yield put(proof, 8 + 15, 0), f"rejected malformed {8 + start_size - 43 - 10}"
+    yield proof[:count_at] + bytes.fromhex("ffffffff") + proof[item_at:], f"rejected malformed {count_at}"
+    yield proof[:count_at] + bytes.fromhex("fffffffe") + proof[item_at:], f"rejected malformed {size}"
+    yield spelled(start, []), "rejected trace missing 1"
+    yield spelled(start, [item] * 2), "rejected trace extra 2"
+    yield spelled(start, []) + item, f"rejected malformed {item_at}"
+    # The key, the block, the transaction and the body of the item, and its counts of links and dependencies.
+    yield put(proof, item_at + 6, ord("c")), "rejected trace order 1"
+    yield put(proof, item_at + 10, 1), "rejected trace order 1"
+    yield put(proof, item_at + 12, 1), "rejected trace header 1"
+    yield put(proof, size - 2, 4), "rejected trace body 1"
+    yield put(proof, item_at + 85, 33), f"rejected malformed {item_at + 85}"
+    yield put(proof, size - 1, 1), f"rejected malformed {size}"
+
+
+def changed_traces():
+    """The proof with the changes that are named, with each byte changed, and cut at every length; and proofs of wrong
+    ancestors."""
+    for changed, begin in named_trace_changes():
+        yield TRACED.case(changed, begin)
+    for offset in range(len(TRACED.proof)):
+        yield TRACED.case(turned(TRACED.proof, offset), "rejected")
+        yield TRACED.case(TRACED.proof[:offset], "rejected malformed")
+    for root, forgery in forged_traces.with_roots():
+        _, key, at = forgery.question
+        yield Proved(f"trace verify {root.hex()} {key} {at}", b"").case(forgery.proof, f"rejected {forgery.refused}")
 
 
 # ---- a proof of a version that is gone
@@ -334,7 +420,8 @@ def commands_over_wrong_logs():
     expose = f"{SET_PROVED.words.replace('verify', 'expose')} 0"
     wrong_logs = [(image, told, status) for image, told, status in LOG_CHANGES if status == DAMAGED]
     for image, told, status in [*wrong_logs, (turned(SET_LOG, 0), "not a log\n", NOT_A_LOG)]:
-        for words in ["back raw/a", "fwd raw/a 7", "root", "prove hist raw/a 7 7", expose, "upgrade"]:
+        traces = ["trace raw/a 7", "trace prove raw/a 7 7"]
+        for words in ["back raw/a", "fwd raw/a 7", "root", "prove hist raw/a 7 7", expose, *traces, "upgrade"]:
             yield LogCase(words, image, told, status, file=source, left=len(source))
 
 
@@ -373,8 +460,10 @@ def hostile_cases():
     """All cases, as tools/cases/log_cases.py gives its own."""
     yield spent_budgets()
     yield from dict.fromkeys(changed_proofs())
+    yield from dict.fromkeys(changed_traces())
     yield from other_paths()
     yield from gone_proofs()
     exposed = (asked.exposed(SET_LOG, 0, changed, begin) for asked, changed, begin in named_changes())
-    for case in itertools.chain(made_proofs(), long_proofs(), exposed, commands_over_wrong_logs(), changed_logs()):
+    parts = made_proofs(), made_traces(), long_proofs(), exposed, commands_over_wrong_logs(), changed_logs()
+    for case in itertools.chain(*parts):
         yield case.case()

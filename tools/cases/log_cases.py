@@ -119,7 +119,12 @@ CHAINS = [
         [[sets("raw/a", 1), sets("raw/a", 2, status=CONFLICT)]],
         ["block 0 rows 1 status 0,1"],
         [Row("raw/a", 0, 0, 1, [])],
-        {"hist raw/a": "block 0 tx 0 int 1\n", "hist raw/b": "none\n"},
+        {
+            "hist raw/a": "block 0 tx 0 int 1\n",
+            "hist raw/b": "none\n",
+            "trace raw/a 0": "block 0 ancestors 0\n",
+            "trace raw/b 0": "none\n",
+        },
     ),
     (
         [
@@ -135,6 +140,8 @@ CHAINS = [
             "fwd raw/a": "block 0 uses 1\nraw/b 1\n",
             # A forward answer counts the rows of the whole chain.
             "fwd raw/a 0": "block 0 uses 1\nraw/b 1\n",
+            "trace raw/b 1": "block 1 ancestors 1\nraw/a 0\n",
+            "trace raw/b 0": "none\n",
         },
     ),
     (
@@ -166,6 +173,13 @@ CHAINS = [
             "back bank/n 2": "block 2 deps 1\nbank/n 1\n",
             "fwd bank/n 1": "block 1 uses 2\nbank/n 2\nbank/log 2\n",
             "fwd raw/a 3": "block 0 uses 2\nbank/n 1\nraw/b 3\n",
+            "trace bank/log 3": "block 2 ancestors 2\nraw/a 0\nbank/n 1\n",
+            "trace bank/n 1": "block 1 ancestors 1\nraw/a 0\n",
+            "trace raw/b 3": "block 3 ancestors 1\nraw/a 0\n",
+            "trace raw/a 3": "block 0 ancestors 0\n",
+            "trace raw/z 3": "none\n",
+            # Where three words are given, the second one is a key.
+            "trace prove 3": "none\n",
         },
     ),
     # A block without transactions, and one that sets a text.
@@ -231,6 +245,10 @@ def chains():
         yield LogCase("root 4294967295", log, beyond, BEYOND)
         yield LogCase(f"hist raw/a {head + 1}", log, beyond, BEYOND)
         yield LogCase("fwd raw/a 4294967295", log, beyond, BEYOND)
+        yield LogCase(f"trace raw/a {head + 1}", log, beyond, BEYOND)
+        yield LogCase("trace raw/a 4294967295", log, beyond, BEYOND)
+        yield LogCase(f"trace prove raw/a 0 {head + 1}", log, beyond, BEYOND)
+        yield LogCase(f"trace prove raw/a {head + 1} {head}", log, beyond, BEYOND)
 
 
 # ---- what is refused
@@ -707,11 +725,21 @@ def paused(words, pull, told, status, file=SET_FILE):
 def words():
     """Words over a log that are no command: nothing is read."""
     questions = ["hist", "hist RAW 0", "hist raw/a 00", "back raw/a 0 0"]
-    for text in ["append x", *questions, "root 00", "root x", "root -1", "root 0 0", "root 4294967296"]:
+    traces = [
+        "trace", "trace raw/a", "trace RAW 0", "trace raw/a 00", "trace raw/a 4294967296", "trace raw/a 0 0",
+        "trace back raw/a 0", "trace expose raw/a 0 0", "traces raw/a 0",
+        "trace prove raw/a 0", "trace prove RAW 0 0", "trace prove raw/a 00 0", "trace prove raw/a 0 00",
+        "trace prove raw/a 0 4294967296", "trace prove raw/a 0 0 0",
+        "trace verify raw/a 0 0", f"trace verify {'0' * 64} raw/a", f"trace verify {'0' * 64} RAW 0",
+        f"trace verify {'0' * 64} raw/a 00", f"trace verify {'0' * 64} raw/a 0 0", f"trace verify {'A' * 64} raw/a 0",
+        f"trace verify {'0' * 63} raw/a 0", f"trace verify {'0' * 65} raw/a 0",
+    ]
+    others = ["root 00", "root x", "root -1", "root 0 0", "root 4294967296"]
+    for text in ["append x", *questions, *traces, *others]:
         yield LogCase(text, SET_LOG, "usage\n", 1, file=SET_FILE, left=len(SET_FILE))
     for kind in ["hist", "back", "fwd"]:
         yield LogCase(f"{kind} raw/a", b"", "beyond empty\n", BEYOND)
-    for text in ["root", "root 0", "root 7"]:
+    for text in ["root", "root 0", "root 7", "trace raw/a 0", "trace verify 0", "trace prove raw/a 0 0"]:
         yield LogCase(text, b"", "beyond empty\n", BEYOND)
 
 

@@ -90,6 +90,8 @@ def answer_of(rows, kind, key, at, root_at):
 class Checked:
     """The rows of a chain and the digests of its blocks, and what the verifier says of proofs over them."""
 
+    is_trace = False
+
     def __init__(self, rows, digests):
         self.rows = rows
         self.history = History(rows)
@@ -99,17 +101,24 @@ class Checked:
     def answer(self, proof, root, question):
         """What the verifier prints."""
         try:
-            return verify.answer(verify.Fields(proof).whole_proof(), root, question)
+            return verify.proved(verify.read_proof(proof, self.is_trace), root, question)
         except verify.Stop as stop:
             return [stop.line]
 
+    def proof_of(self, kind, key, at, root_at):
+        """The proof of a question, with the root at a block."""
+        return proof_of(self.history, self.digests[root_at], kind, key, at, root_at)
+
+    def answer_of(self, kind, key, at, root_at):
+        """What it proves, by going over the rows."""
+        return answer_of(self.rows, kind, key, at, root_at)
+
     def check(self, kind, key, at, root_at):
         """The proof of a question is accepted with its answer, and no change of it is accepted."""
-        digest = self.digests[root_at]
-        root = self.history.root(root_at, digest)
-        proof = proof_of(self.history, digest, kind, key, at, root_at)
+        root = self.history.root(root_at, self.digests[root_at])
+        proof = self.proof_of(kind, key, at, root_at)
         question = verify.Question(KINDS.index(kind), key.encode(), at)
-        wanted = answer_of(self.rows, kind, key, at, root_at)
+        wanted = self.answer_of(kind, key, at, root_at)
         self.expect(f"{kind} {key} {at} {root_at}", self.answer(proof, root, question), wanted)
         for offset in range(0, len(proof), 7):
             changed = proof[:offset] + bytes([proof[offset] ^ 1]) + proof[offset + 1 :]
@@ -127,13 +136,14 @@ class Checked:
 
 
 def recorded_cases():
-    """The cases of `verify` in crates/run_cases: words, input, and what must be printed, after the status."""
+    """The cases of `verify` and of `trace verify` in crates/run_cases: words, input, and what must be printed, after
+    the status."""
     with open(f"{TOP}/crates/run_cases/stdin") as stdin, open(f"{TOP}/crates/run_cases/stdout") as stdout:
         printed = stdout.read().removeprefix("== ").split("\n== ")
         for line, told in zip(stdin, printed, strict=True):
             words, *fields = line.rstrip("\n").split("|")
             # A case of a source or a machine that fails has further fields.
-            if words.startswith("verify ") and len(fields) == 2:
+            if words.startswith(("verify ", "trace verify ")) and len(fields) == 2:
                 yield words, bytes.fromhex(fields[1]), told.rstrip("\n").split("\n")
 
 
@@ -141,7 +151,7 @@ def check_recorded(checked):
     """The verifier tells of each recorded proof what the program must tell."""
     for words, source, [first, *lines] in recorded_cases():
         status = int(first.split()[0])
-        checked.expect(words, told_of(words.split()[1:], source), (lines, status))
+        checked.expect(words, told_of(words.split(), source), (lines, status))
 
 
 def check():

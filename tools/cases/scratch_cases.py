@@ -7,12 +7,13 @@ of tools/cases/growing_roots.py and tools/cases/proof_cases.py.
 """
 from cases.block_files import OK, block_file, calls, deploys, sets
 from cases.fault_cases import EXPOSE, FILE, FRAMES, HEAD_BLOCK, KNOWN, LINES, LOG, PROOF, QUESTIONS, ROOTS, ROWS
-from cases.fault_cases import USES, VERIFY, log_of_first
+from cases.fault_cases import ANCESTORS, TRACE_PROOF, TRACE_VERIFY, USES, VERIFY, log_of_first
 from cases.generated_loads import load_line
 from cases.growing_roots import growing_roots
 from cases.log_cases import ALREADY, DONE, SCRATCH_FAULT, LogCase, frames_of, log_of, upgraded
 from cases.proof_cases import proof_of
 from cases.root_cases import History, Row, block_digests
+from cases.trace_cases import trace_proof_of
 
 # How many rows each block of the file has.
 ROWS_OF_BLOCKS = [sum(row.block == at for row in ROWS) for at in range(len(FRAMES))]
@@ -78,16 +79,18 @@ def with_room(case, room_calls, room_bytes):
 
 
 def failing_questions():
-    """The commands over the log with each call of the device failing. A question about rows makes none; `root` and
-    the proofs put each body; and one at an earlier block reads a body of a lineage of the first blocks."""
+    """The commands over the log with each call of the device failing. A question about rows makes none; `root`,
+    `trace` and the proofs put each body; and one at an earlier block reads a body of a lineage of the first blocks."""
     rows = len(ROWS)
     digests = block_digests(FRAMES)
     earlier = proof_of(History(ROWS[:1]), digests[0], "hist", "raw/a", 0, 0).hex() + "\n"
+    earlier_trace = trace_proof_of(History(ROWS[:1]), digests[0], "raw/a", 0, 0).hex() + "\n"
     others = {
         "root": [f"root {HEAD_BLOCK} {ROOTS[HEAD_BLOCK]}\n"],
         "prove hist raw/a 0 0": [earlier],
+        "trace prove raw/a 0 0": [earlier_trace],
     }
-    gets = {"prove hist raw/a 0 0": 1}
+    gets = {"prove hist raw/a 0 0": 1, "trace prove raw/a 0 0": 1}
     for words, lines in (QUESTIONS | others).items():
         made = 0
         if not words.startswith(("hist", "back", "fwd")):
@@ -147,10 +150,21 @@ def bodies_not_at_hand():
         yield LogCase("append", b"", "".join(lines[:held]), status, after, file, scratch=f"{call}")
 
 
+def ancestor_not_at_hand():
+    """A version that was derived from one whose body is got where it is read."""
+    rows = [Row(f"raw/{at}", 0, at, 5, []) for at in range(AT_HAND)] + [Row("raw/x", 1, 0, 5, [("raw/0", 0)])]
+    image = log_of(block_file([[sets(row.key, 5) for row in rows[:-1]], [sets("raw/x", 5, ["raw/0"])]]))
+    told, got = "block 1 ancestors 1\nraw/0 0\n", len(rows)
+    yield LogCase("trace raw/x 1", image, "", SCRATCH_FAULT, scratch=f"{got}")
+    yield LogCase("trace raw/x 1", image, told, scratch=f"{got + 1}")
+
+
 def without_device():
     """Commands that call no scratch device, over one of which the first call fails."""
     source = PROOF.encode("ascii")
     yield LogCase(VERIFY, b"hello", "".join(USES), file=source, scratch="0")
+    source = TRACE_PROOF.encode("ascii")
+    yield LogCase(TRACE_VERIFY, b"hello", "".join(ANCESTORS), file=source, scratch="0")
     yield LogCase("scan hist raw/b 2", b"", "block 2 tx 0 int 2\n", file=FILE, scratch="0")
     yield LogCase("fmt", b"", "fn f() {\n}\n", file=b"fn f(){}", scratch="0")
     yield LogCase("pack", b"", "", file=b"[]", scratch="0")
@@ -160,7 +174,7 @@ def scratch_cases():
     """All cases, as tools/cases/log_cases.py gives its own."""
     parts = [
         failing_appends(), failing_upgrades(), small_rooms(), failing_questions(), failing_expose(), failing_loads(),
-        bodies_not_at_hand(), without_device(),
+        bodies_not_at_hand(), ancestor_not_at_hand(), without_device(),
     ]
     for part in parts:
         for case in part:

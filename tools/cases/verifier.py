@@ -8,11 +8,13 @@ import verify
 
 
 def told_of(words, source):
-    """What the verifier prints of an input, line by line, and its status."""
+    """What the verifier prints of an input where the words of the command, `verify` or `trace verify`, are these,
+    line by line, and its status."""
+    command, *others = words
     try:
-        root, question = verify.read_words(words)
-        proof = verify.Fields(verify.read_hex(source)).whole_proof()
-        return verify.answer(proof, root, question), verify.DONE
+        root, question, is_trace = verify.read_words(others if command == "verify" else [command, *others[1:]])
+        proof = verify.read_proof(verify.read_hex(source), is_trace)
+        return verify.proved(proof, root, question), verify.DONE
     except verify.Stop as stop:
         return [stop.line], stop.status
 
@@ -22,8 +24,10 @@ def text_of(lines):
 
 
 def root_of(proof):
-    """The root that a proof leads to; none where the bytes are no proof."""
+    """The root that a proof leads to, of an answer or of all ancestors; none where the bytes are no proof."""
     try:
-        return verify.root_of(verify.Fields(proof).whole_proof())
+        if proof.startswith(verify.TRACE_MAGIC):
+            return verify.root_of(verify.read_proof(proof, is_trace=True).start)
+        return verify.root_of(verify.read_proof(proof, is_trace=False))
     except verify.Stop:
         return None

@@ -17,7 +17,8 @@ from cases.log_cases import SET_FILE, SET_LINE, SET_LOG, UNREADABLE, UNTOLD, USA
 from cases.root_cases import History, Row
 from checks.disk_calls import CREATE, LOCK, NEW, SYNCS, TRUNCATE
 from checks.log_runs import LOG, held_frames, is_marked, known_lines
-from checks.program_cases import RAW_A_PROOF, RECALL_FILE, RECALL_LINES, RECALL_LOG, RECALL_ROWS, USED, VERIFY
+from checks.program_cases import MADE_FROM, RAW_A_PROOF, RECALL_FILE, RECALL_LINES, RECALL_LOG, RECALL_ROWS, S1, USED
+from checks.program_cases import VERIFY
 from checks.program_runs import take_rights
 from checks.recall_chains import chain_of, over, recall_chain
 
@@ -193,6 +194,7 @@ RUNS = [
     ("upgrade", b"", RECALL_LOG, [upgraded(3)]),
     ("upgrade", b"", MARKED_LOG, [ALREADY]),
     (QUESTION, b"", RECALL_LOG, USED_LINES),
+    (S1.decode(), b"", RECALL_LOG, MADE_FROM.splitlines(keepends=True)),
 ]
 
 

@@ -97,6 +97,8 @@ def lock_of_another(checks, watched):
         checks.same("prove meanwhile", ask(watched.program, folder, *"prove hist raw/a 0 0".split()), (proof, DONE))
         ran = watched.run_over(folder, EXPOSE.decode("ascii"), RAW_A_PROOF)
         checks.same("expose meanwhile", (ran.told, ran.status), ("no clash\n", DONE))
+        told = "block 0 ancestors 0\n", DONE
+        checks.same("trace meanwhile", ask(watched.program, folder, *"trace raw/a 0".split()), told)
 
 
 def lock_of_a_run(checks, watched):

@@ -2,8 +2,8 @@
 
 Nothing of it comes from what the program told: blocks, files and logs are read by
 tools/cases/block_reader.py, proofs by verifiers/verify.py, roots and proofs of chains without calls worked
-out by tools/cases/root_cases.py and tools/cases/proof_cases.py from the rows of their Sets, and drafts read
-by Python's reader of JSON.
+out by tools/cases/root_cases.py, tools/cases/proof_cases.py and tools/cases/trace_cases.py from the rows of
+their Sets, and drafts read by Python's reader of JSON.
 """
 import dataclasses
 import itertools
@@ -16,6 +16,7 @@ from cases.block_reader import MAX_BUDGETS, MAX_NUMBER, MAX_TXS, Call, Deploy, S
 from cases.log_cases import ALREADY, BAD_INPUT, BEYOND, DAMAGED, DONE, NOT_A_LOG, REFUSED, REJECTED, USAGE, upgraded
 from cases.proof_cases import answer_of, proof_of
 from cases.root_cases import History, Row, block_digests
+from cases.trace_cases import trace_of, trace_proof_of
 from cases.verifier import text_of, told_of, verify
 from checks.mutants import KINDS
 from lineage import draft_faults
@@ -28,6 +29,7 @@ SURROGATE = re.compile("[\ud800-\udfff]")
 STATUSES = {
     "verify": {DONE, USAGE, REJECTED, BAD_INPUT},
     "expose": {DONE, USAGE, NOT_A_LOG, DAMAGED, BEYOND, REJECTED, BAD_INPUT},
+    "trace": {DONE, USAGE, REJECTED, BAD_INPUT},
     "log": {DONE, USAGE, NOT_A_LOG, DAMAGED, BEYOND},
     "scan": {DONE, USAGE, REFUSED, BEYOND},
     "append": {DONE, USAGE, NOT_A_LOG, DAMAGED, REFUSED},
@@ -59,6 +61,13 @@ def hold(what, is_so):
 # ---- what must be told
 
 
+def is_trace(told, at):
+    """Whether lines are the ancestors of a version at a block, by block and then by key, each once."""
+    versions = [(int(block), key) for key, block in re.findall(r"(\S+) (\d+)\n", told.partition("\n")[2])]
+    first = int(told.split()[1])
+    return first <= at and versions == sorted(set(versions)) and all(block < first for block, _ in versions)
+
+
 def is_answer(kind, told, at):
     """Whether lines are an answer to a question of this kind at a block."""
     if told == "none\n":
@@ -66,9 +75,10 @@ def is_answer(kind, told, at):
     if kind == "hist":
         found = re.fullmatch(r"block (\d+) tx \d+ (?:int -?\d+|text [ -~]{0,8192}|gone)\n", told)
         return bool(found) and int(found[1]) <= at
-    word = {"back": "deps", "fwd": "uses"}[kind]
+    word = {"back": "deps", "fwd": "uses", "trace": "ancestors"}[kind]
     found = re.fullmatch(rf"block (\d+) {word} (\d+)\n((?:{ITEM})*)", told)
-    return bool(found) and int(found[1]) <= at and int(found[2]) == found[3].count("\n")
+    is_formed = bool(found) and int(found[1]) <= at and int(found[2]) == found[3].count("\n")
+    return is_formed and (kind != "trace" or is_trace(told, at))
 
 
 @dataclasses.dataclass
@@ -140,11 +150,12 @@ def check_block_line(chain, at, told):
 
 
 def check_answer(chain, kind, key, at, told):
-    """The answer to a question over a chain that has the block."""
+    """The answer to a question over a chain that has the block; or all ancestors, for `trace`."""
     done = plain(chain)
     if done is None:
         return hold(f"no answer: {told!r:.300}", is_answer(kind, told, at))
-    wanted = answer_of(done.rows, kind, key, at, len(chain.blocks) - 1)
+    is_of_all = kind == "trace"
+    wanted = trace_of(done.rows, key, at) if is_of_all else answer_of(done.rows, kind, key, at, len(chain.blocks) - 1)
     return expect("answer", told, "".join(f"{line}\n" for line in wanted))
 
 
@@ -165,9 +176,18 @@ def is_command(words):
     """Whether the words of a question or of a `scan` are a command."""
     if words[0] == "root":
         return len(words) == 1 or len(words) == 2 and is_number(words[1])
+    if words[0] == "trace":
+        asked = words[1 + proves(words) :]
+        is_of_key = len(asked) == 2 + proves(words) and is_question("back", asked[0])
+        return is_of_key and all(map(is_number, asked[1:]))
     counts = {"scan": [3], "prove": [4]}.get(words[0], [2, 3])
     words = words[words[0] in ("scan", "prove") :]
     return len(words) in counts and is_question(*words[:2]) and all(map(is_number, words[2:]))
+
+
+def proves(words):
+    """Whether words are those of a proof that is made, if they are a command."""
+    return words[0] == "prove" or words[:2] == ["trace", "prove"] and len(words) == 5
 
 
 def check_usage(words, result):
@@ -183,7 +203,8 @@ def check_usage(words, result):
 
 def verified(mutant):
     """What verifiers/verify.py tells of a proof, and its status."""
-    lines, status = told_of(mutant.words[1:5], mutant.source)
+    words = mutant.words if mutant.kind == "trace" else ["verify", *mutant.words[1:5]]
+    lines, status = told_of(words, mutant.source)
     return text_of(lines), status
 
 
@@ -218,9 +239,9 @@ def check_log(mutant, result):
     if line:
         status = NOT_A_LOG if line.startswith("not") else DAMAGED
         return expect("log", (result.told, result.status), (line, status))
-    numbers = [int(word) for word in words[{"root": 1, "prove": 3}.get(words[0], 2) :]]
+    numbers = [int(word) for word in words[1 if words[0] == "root" else 3 if proves(words) else 2 :]]
     head = len(chain.blocks) - 1
-    is_past = words[0] == "prove" and numbers[0] > numbers[1]
+    is_past = proves(words) and numbers[0] > numbers[1]
     if head < 0 or is_past or max(numbers, default=0) > head:
         return expect("log", (result.told, result.status), (beyond(chain), BEYOND))
     expect("status", result.status, DONE)
@@ -229,7 +250,7 @@ def check_log(mutant, result):
         found = re.fullmatch(rf"root {at} ([0-9a-f]{{64}})\n", result.told)
         hold(f"no root: {result.told!r:.300}", found)
         return check_root(chain, at, found[1])
-    if words[0] == "prove":
+    if proves(words):
         return check_made_proof(chain, words, numbers, result.told)
     return check_answer(chain, words[0], words[1], numbers[0] if numbers else head, result.told)
 
@@ -237,22 +258,29 @@ def check_log(mutant, result):
 def check_made_proof(chain, words, numbers, told):
     """A proof that is made is accepted under the root to which it leads, with an answer over the blocks up to
     that of the root."""
+    is_of_all, key = words[0] == "trace", words[2]
+    kind = "back" if is_of_all else words[1]
     try:
-        proof = verify.Fields(bytes.fromhex(told.removesuffix("\n"))).whole_proof()
-        question = verify.Question(KINDS.index(words[1]), words[2].encode(), numbers[0])
-        lines = verify.answer(proof, verify.root_of(proof), question)
+        proof = verify.read_proof(bytes.fromhex(told.removesuffix("\n")), is_of_all)
+        start = proof.start if is_of_all else proof
+        question = verify.Question(KINDS.index(kind), key.encode(), numbers[0])
+        lines = verify.proved(proof, verify.root_of(start), question)
     except (ValueError, verify.Stop) as stop:
         raise Wrong(f"a proof that is made: {stop}") from stop
-    expect("root block", proof.root_block, numbers[1])
+    expect("root block", start.root_block, numbers[1])
     known = small(chain)
     if known:
         done, digests = known
-        wanted = proof_of(done.history(), digests[numbers[1]], words[1], words[2], *numbers)
+        made, digest = done.history(), digests[numbers[1]]
+        if is_of_all:
+            wanted = trace_proof_of(made, digest, key, *numbers)
+        else:
+            wanted = proof_of(made, digest, kind, key, *numbers)
         expect("proof", told, f"{wanted.hex()}\n")
     until = Chain()
     for frame in chain.frames[: numbers[1] + 1]:
         until.take_in(frame)
-    check_answer(until, words[1], words[2], numbers[0], "".join(f"{line}\n" for line in lines))
+    check_answer(until, "trace" if is_of_all else kind, key, numbers[0], "".join(f"{line}\n" for line in lines))
 
 
 def check_scan(mutant, result):
@@ -329,6 +357,7 @@ def check_pack(mutant, result):
 COMMANDS = {
     "verify": check_verify,
     "expose": check_expose,
+    "trace": check_verify,
     "log": check_log,
     "scan": check_scan,
     "append": check_append,

@@ -9,6 +9,7 @@ import re
 
 from cases.block_files import SECOND_VERSION, block_digest, number
 from cases.block_reader import MAX_TXS, Fields, Invalid
+from cases.drawn_traces import drawn_trace
 from cases.generated_chain import Generated
 from cases.log_cases import CLOSED, HEAD, MARK, OPEN, frames_of, log_of
 from cases.proof_cases import KINDS
@@ -25,7 +26,7 @@ GENERATED = (40, 7)
 # Where the transactions of a block begin to be counted, after its version, number and parent.
 TXS_AT = 37
 # How often each command is, of all mutants.
-SHARES = {"verify": 26, "expose": 10, "log": 22, "scan": 12, "append": 10, "fmt": 11, "pack": 9}
+SHARES = {"verify": 21, "expose": 9, "trace": 12, "log": 22, "scan": 10, "append": 9, "fmt": 9, "pack": 8}
 # Numbers at the limits of one, two, four and eight bytes.
 LIMITS = [bytes([byte]) * width for width in (1, 2, 4, 8) for byte in (0x00, 0x7F, 0x80, 0xFF)]
 LIMITS += [OPEN, *(number(of, 2) for of in (64, 65, 1_024, 8_192)), number(1_048_576, 4), number(1_000_001, 4)]
@@ -57,10 +58,11 @@ class Mutant:
 
 @dataclasses.dataclass
 class Seeds:
-    """What the cases have: proofs, each with its words and its log; logs; block files; block files that are
-    appended to logs; contracts; drafts."""
+    """What the cases have: proofs, each with its words and its log; proofs of ancestors, each with its words; logs;
+    block files; block files that are appended to logs; contracts; drafts."""
 
     proofs: list
+    traces: list
     logs: list
     files: list
     appended: list
@@ -105,7 +107,11 @@ def read_seeds():
             proof = read_hex(source)
             if proof:
                 found["proofs"].append((words[1:], proof, image or None))
-        elif command in ("root", "prove", "upgrade", *KINDS):
+        elif words[:2] == ["trace", "verify"] and len(words) == 5:
+            proof = read_hex(source)
+            if proof:
+                found["traces"].append((words[2:], proof))
+        elif command in ("root", "prove", "upgrade", "trace", *KINDS):
             found["logs"].append((words, image))
         elif command in ("scan", "append", "fmt", "pack"):
             found[command].append((words, source, image or None))
@@ -116,6 +122,7 @@ def read_seeds():
     found["logs"] += [(["root"], log_of(file)) for file in files]
     return Seeds(
         found["proofs"],
+        found["traces"],
         found["logs"],
         found["scan"],
         found["append"],
@@ -324,15 +331,41 @@ def proof_mutant(kind, seeds, rng):
     if rng.randrange(25) == 0:
         at = rng.randrange(len(words))
         words[at] = near(words[at], rng) if at > 2 else rng.choice(rng.choice(seeds.proofs)[0])
-    digits = proof.hex().encode() + rng.choice([b"", b"\n"])
-    if rng.randrange(25) == 0:
-        digits = changes(digits, [digits.upper(), b"g\n"], [b"0", b"\n", b"\0", b"G", b"FF"], rng)
+    digits = changed_digits(proof, rng)
     proof = read_hex(digits) or b""
     if kind == "verify":
         return Mutant(kind, ["verify", *words[:4]], digits, None, proof)
     if rng.randrange(20) == 0:
         log = changed_log(log or b"", [image for _, image in seeds.logs[-400:]], seeds.txs, rng)
     return Mutant(kind, ["expose", *words], digits, log, proof)
+
+
+def changed_digits(proof, rng):
+    """The hex digits of a proof, which are changed now and then."""
+    digits = proof.hex().encode() + rng.choice([b"", b"\n"])
+    if rng.randrange(25) == 0:
+        digits = changes(digits, [digits.upper(), b"g\n"], [b"0", b"\n", b"\0", b"G", b"FF"], rng)
+    return digits
+
+
+def trace_mutant(seeds, rng):
+    """A proof of ancestors that is drawn, or changed, mostly against its own root; now and then the question or the
+    digits are changed."""
+    words, proof = rng.choice(seeds.traces)
+    words, is_drawn = list(words), rng.randrange(2)
+    if is_drawn:
+        proof, asked = drawn_trace(rng)
+        words = [root_of(proof).hex(), *asked]
+    if not rng.randrange(6) if is_drawn else rng.randrange(20):
+        proof = changes(proof, [other for _, other in seeds.traces], LIMITS, rng)
+    if rng.randrange(2):
+        own = root_of(proof)
+        words[0] = own.hex() if own else words[0]
+    if rng.randrange(25) == 0:
+        at = rng.randrange(len(words))
+        words[at] = near(words[at], rng) if at > 1 else rng.choice(rng.choice(seeds.traces)[0])
+    digits = changed_digits(proof, rng)
+    return Mutant("trace", ["trace", "verify", *words], digits, None, read_hex(digits) or b"")
 
 
 def appended_file(image, seeds, rng):
@@ -361,10 +394,12 @@ def log_mutant(seeds, rng):
     if pick == 1:
         words = rng.choice([["root"], ["root", str(rng.randrange(4))]])
     elif words[0] != "root" and len(words) > 2:
-        words = [*words[:2], *(near(word, rng) for word in words[2:])]
+        front = 3 if words[0] == "trace" and len(words) == 5 else 2
+        words = [*words[:front], *(near(word, rng) for word in words[front:])]
     elif words[0] == "root":
         key = rng.choice(["raw/a", "raw/b", "mix/3", "c/log"])
-        words = rng.choice([words, [rng.choice(KINDS), key], ["prove", rng.choice(KINDS), key, "0", "0"]])
+        traces = rng.choice([["trace", key, "0"], ["trace", key, "1"], ["trace", "prove", key, "0", "0"]])
+        words = rng.choice([words, [rng.choice(KINDS), key], ["prove", rng.choice(KINDS), key, "0", "0"], traces])
     return Mutant("log", list(words), b"", image)
 
 
@@ -374,6 +409,8 @@ def mutant(place, seeds):
     (kind,) = rng.choices(list(SHARES), SHARES.values())
     if kind in ("verify", "expose"):
         return proof_mutant(kind, seeds, rng)
+    if kind == "trace":
+        return trace_mutant(seeds, rng)
     if kind == "log":
         return log_mutant(seeds, rng)
     if kind in ("scan", "append"):

@@ -71,6 +71,28 @@ block 0 uses 2
 raw/lot/l1 1
 raw/lot/l3 2
 """
+# What the version in the shop was made from; and a proof of that under the root of the last block, of 634 bytes, in
+# hex and a line end, by docs/proofs.md. The proof that it starts with ends before the offset 376, where the count of
+# items stands, and the items begin at 380 and 530.
+S1 = b"trace raw/shop/s1 2"
+MADE_FROM = """\
+block 2 ancestors 2
+raw/part/p1 0
+raw/lot/l1 1
+"""
+with open(f"{TOP}/examples/shop-s1.proof", "rb") as shop_s1:
+    S1_PROOF = shop_s1.read()
+PROVE_S1 = b"trace prove raw/shop/s1 2 2"
+VERIFY_S1 = f"trace verify {RECALL_ROOTS[2]} raw/shop/s1 2".encode()
+
+
+def s1_proof(count, *items):
+    """The proof with so many items, which are pieces of it."""
+    pieces = [S1_PROOF[: 2 * 376], b"%08x" % count, *(S1_PROOF[2 * start : 2 * end] for start, end in items), b"\n"]
+    return b"".join(pieces)
+
+
+LOT, PART = (380, 530), (530, 634)
 
 # A contract of the second edition, and the canonical text of another.
 DROPPING = b'fn g() { drop "c/a"; }'
@@ -181,6 +203,20 @@ CASES = [
     Case(EXPOSE, RAW_A_PROOF, "no clash\n", 0, log=SET_LOG),
     Case(EXPOSE, RAW_A_PROOF.rstrip().upper(), "no clash\n", 0, log=SET_LOG),
     Case(EXPOSE, RAW_A_PROOF, "", 12, log=SET_LOG, is_read_only=True),
+    # All that a version was made from, and proofs of that. Where three words are given, the second one is a key.
+    Case(S1, None, MADE_FROM, 0, log=RECALL_LOG),
+    Case(S1, None, MADE_FROM, 0, streams="<&-", log=log_of(RECALL_FILE, b"")),
+    Case(b"trace raw/shop/s1 1", None, "none\n", 0, log=RECALL_LOG),
+    Case(b"trace raw/lot/l3 2", None, "block 2 ancestors 2\nraw/part/p1 0\nraw/part/p2 0\n", 0, log=RECALL_LOG),
+    Case(b"trace raw/part/p1 2", None, "block 0 ancestors 0\n", 0, log=RECALL_LOG),
+    Case(b"trace prove 2", None, "none\n", 0, log=RECALL_LOG),
+    Case(b"trace verify 2", None, "none\n", 0, log=RECALL_LOG),
+    Case(PROVE_S1, None, S1_PROOF, 0, log=RECALL_LOG),
+    Case(PROVE_S1, None, S1_PROOF, 0, streams="<&-", log=RECALL_LOG),
+    Case(S1, None, "", 12, log=RECALL_LOG, is_read_only=True),
+    Case(PROVE_S1, None, "", 12, log=RECALL_LOG, is_read_only=True),
+    Case(VERIFY_S1, S1_PROOF, MADE_FROM, 0),
+    Case(VERIFY_S1, S1_PROOF.rstrip().upper(), MADE_FROM, 0, log=b"hello"),
     # 1: the words are no command: none, too few, one too many before or after those of a command.
     Case(b"", ONE_SET, "usage\n", 1),
     Case(b"scan hist raw/a", ONE_SET, "usage\n", 1),
@@ -204,12 +240,22 @@ CASES = [
     Case(b"prove hist raw/a 0", None, "usage\n", 1, log=SET_LOG),
     Case(b"prove hist raw/a 0 00", None, "usage\n", 1, log=SET_LOG),
     Case(EXPOSE[:-2], RAW_A_PROOF, "usage\n", 1, log=SET_LOG),
+    Case(b"trace raw/shop/s1", None, "usage\n", 1, log=RECALL_LOG),
+    Case(b"trace raw/shop/s1 2 2", None, "usage\n", 1, log=RECALL_LOG),
+    Case(b"trace raw/shop/s1 02", None, "usage\n", 1, log=RECALL_LOG),
+    Case(b"trace hist raw/shop/s1 2 2", None, "usage\n", 1, log=RECALL_LOG),
+    Case(b"trace back raw/shop/s1 2", None, "usage\n", 1, log=RECALL_LOG),
+    Case(PROVE_S1 + b"a", None, "usage\n", 1, log=RECALL_LOG),
+    Case(PROVE_S1 + b" 2", None, "usage\n", 1, log=RECALL_LOG),
+    Case(VERIFY_S1.replace(b"c36b", b"C36b"), S1_PROOF, "usage\n", 1),
+    Case(VERIFY_S1 + b" 2", S1_PROOF, "usage\n", 1),
     Case(EXPOSE + b"0", RAW_A_PROOF, "usage\n", 1, log=SET_LOG),
     # 2: reading fails, and nothing is printed.
     Case(SCAN, None, "", 2, streams="<&-"),
     Case(b"fmt", None, "", 2, streams="</"),
     Case(b"pack", None, "", 2, streams="<&-"),
     Case(b"append", None, "", 2, streams="<&-"),
+    Case(VERIFY_S1, None, "", 2, streams="<&-"),
     # The log does not take the place of a stream that is closed.
     Case(b"append", None, "", 2, streams="<&-", log=SET_LOG),
     Case(b"append", None, "", 2, streams="<&- >&- 2>&-", log=SET_LOG),
@@ -230,6 +276,9 @@ CASES = [
     Case(b"pack", DRAFT, "", 3, streams=">/dev/full"),
     Case(b"gen 2 0", b"", "", 3, streams=">/dev/full"),
     Case(b"load 2 0", b"", "", 3, streams=">/dev/full"),
+    Case(S1, None, "", 3, streams=">/dev/full", log=RECALL_LOG),
+    Case(PROVE_S1, None, "", 3, streams=">&-", log=RECALL_LOG),
+    Case(VERIFY_S1, S1_PROOF, "", 3, streams=">&-"),
     # 4: the log is a folder; a device, of zeros or of nothing; a link to no folder.
     Case(b"append", ONE_SET, "", 4, log="."),
     Case(b"hist raw/a", None, "", 4, log="."),
@@ -250,6 +299,10 @@ CASES = [
     Case(b"prove hist raw/a 0 0", None, "not a log\n", 6, log=b"hello"),
     Case(b"prove hist raw/a 0 0", None, "damaged at 8\n", 7, log=SET_LOG[:40]),
     Case(EXPOSE, b"zz", "not a log\n", 6, log=b"hello"),
+    Case(S1, None, "not a log\n", 6, log=b"hello"),
+    Case(PROVE_S1, None, "not a log\n", 6, log=b"hello"),
+    Case(S1, None, "damaged at 8\n", 7, log=SET_LOG[:40]),
+    Case(PROVE_S1, None, "damaged at 8\n", 7, log=SET_LOG[:40]),
     Case(EXPOSE, b"zz", "damaged at 8\n", 7, log=SET_LOG[:40]),
     Case(b"append", ONE_SET, "damaged at 8\n", 7, log=SET_LOG[:40]),
     Case(b"fwd raw/a 0", None, "damaged at 8\n", 7, log=SET_LOG[:40]),
@@ -282,6 +335,11 @@ CASES = [
     Case(EXPOSE, b"zz", "beyond empty\n", 9),
     Case(EXPOSE[:-1] + b"1", None, "beyond head 0\n", 9, streams="<&-", log=SET_LOG),
     Case(EXPOSE[:-3] + b"1 0", None, "beyond head 0\n", 9, streams="<&-", log=SET_LOG),
+    Case(S1, None, "beyond empty\n", 9),
+    Case(S1, None, "beyond head 0\n", 9, log=SET_LOG),
+    Case(b"trace prove raw/shop/s1 2 3", None, "beyond head 2\n", 9, log=RECALL_LOG),
+    Case(b"trace prove raw/shop/s1 2 1", None, "beyond head 2\n", 9, log=RECALL_LOG),
+    Case(b"trace prove raw/shop/s1 2 1", None, "beyond empty\n", 9, log=EMPTY_LOG[:8] + b"\0"),
     Case(SCAN, b"", "beyond empty\n", 9),
     Case(b"scan hist raw/a 1", ONE_SET, "beyond head 0\n", 9),
     # 10: a proof is not accepted.
@@ -302,6 +360,20 @@ CASES = [
         10,
         log=SET_LOG,
     ),
+    Case(VERIFY_S1, b"", "rejected malformed 0\n", 10),
+    Case(VERIFY_S1, RAW_A_PROOF, "rejected malformed 0\n", 10),
+    Case(VERIFY, S1_PROOF, "rejected malformed 0\n", 10),
+    Case(VERIFY_S1, S1_PROOF[:14], "rejected malformed 4\n", 10),
+    Case(VERIFY_S1, S1_PROOF[:-3], "rejected malformed 633\n", 10),
+    Case(VERIFY_S1, S1_PROOF[:-1] + b"00", "rejected malformed 634\n", 10),
+    Case(VERIFY_S1, s1_proof(2**32 - 1, LOT, PART), "rejected malformed 376\n", 10),
+    Case(VERIFY_S1, s1_proof(2**32 - 2, LOT, PART), "rejected malformed 634\n", 10),
+    Case(VERIFY_S1.replace(b"raw/shop", b"raw/ship"), S1_PROOF, "rejected query\n", 10),
+    Case(VERIFY_S1.replace(b"c36b", b"c36c"), S1_PROOF, f"rejected root {RECALL_ROOTS[2]}\n", 10),
+    Case(VERIFY_S1, s1_proof(0), "rejected trace missing 1\n", 10),
+    Case(VERIFY_S1, s1_proof(1, LOT), "rejected trace missing 2\n", 10),
+    Case(VERIFY_S1, s1_proof(1, PART), "rejected trace order 1\n", 10),
+    Case(VERIFY_S1, s1_proof(3, LOT, PART, PART), "rejected trace extra 3\n", 10),
     # 11: the input is no contract, no draft or no hex, or too long.
     Case(b"fmt", b"fn f()", "badinput syntax 6 end\n", 11),
     Case(b"fmt", DROPPING, "badinput syntax 14 expected\n", 11),
@@ -321,6 +393,9 @@ CASES = [
     Case(EXPOSE, MAX_SOURCE_BYTES + 1, "badinput long\n", 11, log=SET_LOG),
     Case(VERIFY, b"zz", "badinput at 0\n", 11),
     Case(VERIFY, RAW_A_PROOF + b"\n", "badinput odd\n", 11),
+    Case(VERIFY_S1, b"abc", "badinput odd\n", 11),
+    Case(VERIFY_S1, S1_PROOF[:6] + b"g" + S1_PROOF[7:], "badinput at 6\n", 11),
+    Case(VERIFY_S1, MAX_SOURCE_BYTES + 1, "badinput long\n", 11),
     Case(VERIFY, MAX_SOURCE_BYTES, "badinput at 0\n", 11),
     Case(VERIFY, MAX_SOURCE_BYTES + 1, "badinput long\n", 11),
 ]

@@ -13,11 +13,12 @@ from cases.growing_roots import growing_roots
 from cases.log_cases import DONE, SCRATCH_FAULT, frames_of, log_of, upgraded
 from cases.proof_cases import proof_of
 from cases.root_cases import History, Row, block_digests
+from cases.trace_cases import trace_proof_of
 from checks.disk_calls import CREATE, NEW, TRUNCATE, get, put
 from checks.edge_calls import ERRORS, FRAMES, LINES, goes_on, some_of_each_kind
 from checks.lock_checks import give, running_append
 from checks.log_runs import LOG, SCRATCH, SCRATCH_FOLDER, held_frames, known_lines
-from checks.program_cases import RECALL_FILE, RECALL_LOG, RECALL_ROOTS, RECALL_ROWS
+from checks.program_cases import MADE_FROM, RECALL_FILE, RECALL_LOG, RECALL_ROOTS, RECALL_ROWS, S1
 from checks.program_runs import take_rights
 
 # The owner alone may open it.
@@ -38,15 +39,25 @@ def earlier_proof(rows, frames, key):
     return proof_of(History(first), block_digests(frames)[0], "hist", key, 0, 0).hex() + "\n"
 
 
+def earlier_trace(rows, frames, key):
+    """What is told of `trace prove KEY 0 0`."""
+    first = [row for row in rows if row.block == 0]
+    return trace_proof_of(History(first), block_digests(frames)[0], key, 0, 0).hex() + "\n"
+
+
 # The lineage of the first block, of which these proofs are made, has no body at hand: one is read back, the first
 # or another.
 PROVED = {f"prove hist {row.key} 0 0": row for row in RECALL_ROWS if row.block == 0}
+TRACED = {f"trace prove {row.key} 0 0": row for row in RECALL_ROWS if row.block == 0}
+READING_BACK = PROVED | TRACED
 # Runs that use the scratch file: the words, the input, the log before, and what is told.
 RUNS = [
     ("append", RECALL_FILE, None, "".join(LINES)),
     ("append", RECALL_FILE, log_of(FRAMES[0]), "".join(known_lines(1) + LINES[1:])),
     ("upgrade", b"", RECALL_LOG, upgraded(len(FRAMES))),
+    (S1.decode(), b"", RECALL_LOG, MADE_FROM),
     *[(words, b"", RECALL_LOG, earlier_proof(RECALL_ROWS, FRAMES, row.key)) for words, row in PROVED.items()],
+    *[(words, b"", RECALL_LOG, earlier_trace(RECALL_ROWS, FRAMES, row.key)) for words, row in TRACED.items()],
 ]
 
 
@@ -78,10 +89,10 @@ def wanted_steps(words):
     for row in RECALL_ROWS:
         size = body_size(history, row)
         steps.append(f"pwrite {at} {size}")
-        if row is PROVED.get(words):
+        if row is READING_BACK.get(words):
             read_back = [f"pread {at} {size}"]
         at += size
-    return steps + read_back if words in PROVED else steps
+    return steps + read_back if words in READING_BACK else steps
 
 
 def scratch_steps(calls):

@@ -13,7 +13,9 @@ from cases.generated_chain import Generated, spelled
 from cases.generated_loads import growing_links, links, load_line
 from cases.growing_roots import growing_roots
 from cases.log_cases import BEYOND, DONE, REFUSED, frames_of, log_of, upgraded
-from cases.root_cases import Row, roots
+from cases.root_cases import History, Row, block_digests, roots
+from cases.trace_cases import trace_of, trace_proof_of
+from cases.verifier import text_of
 from checks.program_runs import Case
 
 BAD_INPUT = 11
@@ -263,6 +265,31 @@ def uses_runs():
     yield from chain.question_runs("fwd", "raw/s", 0, 2)
 
 
+def ancestors_runs(chain, key):
+    """All ancestors of the last version of a key, and the proof of them, made and verified."""
+    history, head = History(chain.rows), chain.head
+    for row in chain.rows:
+        # What a row names comes before it, so that no header waits for many others.
+        history.header_digest(row.key, row.block)
+    told = text_of(trace_of(chain.rows, key, head))
+    proof = trace_proof_of(history, block_digests(chain.frames)[head], key, head, head).hex() + "\n"
+    yield run(f"trace {key} {head}".encode(), None, told, log=chain.log)
+    yield run(f"trace prove {key} {head} {head}".encode(), None, proof, log=chain.log)
+    yield run(f"trace verify {chain.roots[head]} {key} {head}".encode(), proof.encode(), told)
+
+
+def trace_runs():
+    """A version with 999 ancestors in a line; and one with 448, each derived from all 64 of the block before."""
+    line = [[(f"raw/{at}", at, [(f"raw/{at - 1}", at - 1)] if at else [])] for at in range(1_000)]
+    yield from ancestors_runs(chain_of_sets(line), "raw/999")
+    width = range(MAX_DEPS)
+    net = [
+        [(f"raw/{at}-{i}", i, [(f"raw/{at - 1}-{j}", at - 1) for j in width] if at else []) for i in width]
+        for at in range(8)
+    ]
+    yield from ancestors_runs(chain_of_sets(net), "raw/7-0")
+
+
 # ---- limits of a transaction, in a block and in a draft
 
 
@@ -361,7 +388,7 @@ def sum_runs():
 def size_runs():
     """All runs."""
     for part in [
-        generated_runs, level_runs, full_runs, txs_runs, long_block_runs, uses_runs, limit_runs,
+        generated_runs, level_runs, full_runs, txs_runs, long_block_runs, uses_runs, trace_runs, limit_runs,
         deps_runs, args_runs, sum_runs,
     ]:
         yield from part()

@@ -8,7 +8,9 @@ from cases.log_cases import (
     BAD_INPUT, BEYOND, CLOSED, CLOSED_HEAD, DAMAGED, DONE, NOT_A_LOG, REFUSED, REJECTED, SET_LOG, USAGE, frames_of,
     log_of,
 )
-from checks.program_cases import BANK, DRAFT, EXPOSE, MARKED_LOG, RAW_A_PROOF, RECALL_FILE, RECALL_LOG, VERIFY
+from checks.program_cases import (
+    BANK, DRAFT, EXPOSE, MARKED_LOG, PROVE_S1, RAW_A_PROOF, RECALL_FILE, RECALL_LOG, S1, S1_PROOF, VERIFY, VERIFY_S1,
+)
 from checks.program_runs import TOP
 
 
@@ -82,6 +84,14 @@ OTHERS = [
     Command(EXPOSE.decode(), RAW_A_PROOF, SET_LOG),
     Command(fault_cases.EXPOSE, fault_cases.PROOF.encode("ascii"), fault_cases.LOG),
     Command(EXPOSE.decode().replace("raw/a", "raw/b"), RAW_A_PROOF, SET_LOG, status=REJECTED),
+    Command(S1.decode(), log=RECALL_LOG),
+    Command("trace bank/log 3", log=BANK_LOG),
+    Command(S1.decode(), log=SET_LOG, status=BEYOND),
+    Command(PROVE_S1.decode(), log=RECALL_LOG),
+    Command("trace prove bank/log 3 3", log=BANK_LOG),
+    Command(VERIFY_S1.decode(), S1_PROOF),
+    Command(VERIFY_S1.decode().replace("s1", "s2"), S1_PROOF, status=REJECTED),
+    Command(VERIFY_S1.decode(), b"zz", status=BAD_INPUT),
     Command("fmt", read(f"{TOP}/examples/shop.contract")),
     Command("fmt 2", read(f"{TOP}/examples/lot.contract")),
     Command("fmt", b"fn f() { a = 1; }", status=BAD_INPUT),

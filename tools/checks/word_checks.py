@@ -29,7 +29,7 @@ from cases.block_files import (
 )
 from cases.log_cases import CLOSED, CLOSED_HEAD, HEAD, OPEN, SET_FILE, SET_LOG
 from checks.log_runs import LOG
-from checks.program_cases import RAW_A_PROOF, RAW_A_ROOT, RECALL_FILE, RECALL_LOG, RECALL_ROOTS
+from checks.program_cases import PROVE_S1, RAW_A_PROOF, RAW_A_ROOT, RECALL_FILE, RECALL_LOG, RECALL_ROOTS
 from lineage.statuses import BAD_INPUT, DAMAGED, DISK_FAULT, DONE, NOT_A_LOG, REJECTED, UNTOLD
 from lineage.told_statuses import STATUSES
 from places import TOP
@@ -331,7 +331,8 @@ def verifier_words(checks, wrapper):
     streams = {"capture_output": True, "timeout": RUN_LIMIT}
     ran = subprocess.run([*verifier, "--help"], **streams)
     checks.same("the status of its help", (ran.returncode, ran.stderr), (DONE, b""))
-    checks.holds("its help has its words", b"verify.py ROOT KIND KEY BLOCK < PROOF" in ran.stdout)
+    for form in (b"ROOT KIND KEY BLOCK", b"trace ROOT KEY BLOCK"):
+        checks.holds(f"its help has the words {form}", b"verify.py " + form + b" < PROOF" in ran.stdout)
     words = [RAW_A_ROOT, "fwd", "raw/a", "0"]
     ran = subprocess.run([*verifier, *words], input=RAW_A_PROOF, **streams)
     checks.same("what is printed of another question", (ran.stdout, ran.returncode), (b"rejected query\n", REJECTED))
@@ -346,8 +347,9 @@ def verifier_words(checks, wrapper):
     with tempfile.TemporaryDirectory() as folder:
         with open(f"{folder}/{LOG}", "wb") as log:
             log.write(RECALL_LOG)
-        for question, shown in SHOWN:
-            made = subprocess.run([wrapper, "prove", *question.split(), "2"], cwd=folder, **streams).stdout
+        shown_of = [(f"prove {question} 2", question, shown) for question, shown in SHOWN]
+        for command, question, shown in [*shown_of, (PROVE_S1.decode(), "back raw/shop/s1 2", SHOWN_OF_TRACE)]:
+            made = subprocess.run([wrapper, *command.split()], cwd=folder, **streams).stdout
             ran = subprocess.run([*verifier, "--show"], input=made, **streams)
             lines = ran.stdout.decode().split("\n")
             checks.same(f"the status where {question} is shown", (ran.returncode, ran.stderr), (DONE, b""))
@@ -374,6 +376,15 @@ SHOWN = [
     # Keys are in the order of their first rows, and the leaf before all keys has the index 0.
     ("hist raw/none 1", ["leaf 5 of 7, from 0: key raw/lot/l3, next key raw/part/p1"]),
     ("hist raw/a 1", ["leaf 0 of 7, from 0: before all keys, next key raw/lot/l1"]),
+]
+# Lines that are shown of the proof of all ancestors.
+SHOWN_OF_TRACE = [
+    "body: text l1, derived from 1 versions",
+    "item 1: raw/lot/l1 1",
+    "body: int 120, derived from 1 versions",
+    "item 2: raw/part/p1 0",
+    "body: text batch 17, derived from 0 versions",
+    "nothing of this was checked: verify.py trace ROOT raw/shop/s1 2 does that",
 ]
 
 

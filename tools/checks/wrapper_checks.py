@@ -18,7 +18,9 @@ from cases.block_files import (
 from cases.log_cases import CLOSED, CLOSED_HEAD, HEAD, NOT_A_LOG, OPEN, REFUSED, SET_FILE, SET_LINE, SET_LOG
 from checks import build_checks, disk_calls, page_runs, word_checks
 from checks.log_runs import LOG
-from checks.program_cases import CASES, RAW_A_PROOF, RAW_A_ROOT, RECALL_FILE
+from checks.program_cases import (
+    CASES, LOT, PART, RAW_A_PROOF, RAW_A_ROOT, RECALL_FILE, RECALL_LOG, S1_PROOF, VERIFY_S1, s1_proof,
+)
 from checks.program_runs import TOP, check_case, take_rights
 from lineage import commands, lineage_input, lineage_messages, statuses
 
@@ -50,6 +52,7 @@ MARK = OPEN + bytes(4) + CLOSED
 MARKED_LOG, MARKED_HEAD = SET_LOG[:-1] + MARK, HEAD + MARK
 BOTH_LOG = MARKED_LOG[:-1] + OPEN + AFTER_SET + CLOSED
 FIRST_AFTER_BOTH = block_frame(FIRST_VERSION, 2, block_digest(AFTER_SET[4:]), [])
+TRACE_VERIFY = VERIFY_S1.decode()
 # Words, input, log before, and a part of what is said.
 SAID = [
     ("", b"", None, "the commands are"),
@@ -125,6 +128,26 @@ SAID = [
     (f"expose {RAW_A_ROOT} hist raw/a 1 0", b"", SET_LOG, "BLOCK is past ROOTBLOCK"),
     (f"expose {RAW_A_ROOT} hist raw/b 0 0", RAW_A_PROOF, SET_LOG, "of another question"),
     (f"expose {RAW_A_ROOT} hist raw/a 0 0", b"abc", SET_LOG, "the number of digits is odd"),
+    ("trace raw/a", b"", None, "`trace prove KEY BLOCK ROOTBLOCK` or `trace verify ROOT KEY BLOCK`"),
+    ("trace raw/a 00", b"", None, "word 3, `00`, is not BLOCK"),
+    ("trace back raw/a 0 0", b"", None, "word 2, `back`, is not `prove` or `verify`"),
+    ("trace prove raw/a 0 00", b"", None, "word 5, `00`, is not ROOTBLOCK"),
+    ("trace verify raw/a 0 0", b"", None, "word 3, `raw/a`, is not ROOT"),
+    ("trace raw/a 0", b"", None, f"has no {LOG}"),
+    ("trace raw/a 1", b"", SET_LOG, "the chain ends before it"),
+    ("trace prove raw/a 1 0", b"", SET_LOG, "BLOCK is past ROOTBLOCK"),
+    ("trace prove raw/shop/s1 2 3", b"", RECALL_LOG, "the chain ends before it"),
+    (TRACE_VERIFY, b"", None, "the first invalid field is at offset 0"),
+    (TRACE_VERIFY, RAW_A_PROOF, None, "looks like a proof in hex: `./lineage verify ROOT"),
+    (f"verify {RAW_A_ROOT} hist raw/a 0", S1_PROOF, None, "looks like a proof of ancestors in hex"),
+    (TRACE_VERIFY.replace("s1", "s2"), S1_PROOF, None, "of another question: back raw/shop/s1 2\n"),
+    (TRACE_VERIFY.replace("c36b", "c36c"), S1_PROOF, None, "to another root, c36b"),
+    (TRACE_VERIFY, s1_proof(1, LOT), None, "an item 2 is missing"),
+    (TRACE_VERIFY, s1_proof(1, PART), None, "item 1 is not the version that comes next"),
+    (TRACE_VERIFY, s1_proof(3, LOT, PART, PART), None, "nothing is left where item 3 stands"),
+    (TRACE_VERIFY, b"abc", None, "the number of digits is odd"),
+    (TRACE_VERIFY, SET_FILE, None, "looks like a block file"),
+    ("append", S1_PROOF, None, "looks like a proof of ancestors in hex"),
     ("hist raw/a", b"", b"hello", "something else than a log"),
     ("hist raw/a", b"", SET_LOG[:40], "was changed or cut"),
     ("scan hist raw/a 0", SET_LOG, None, "looks like a log: ask `hist`"),
@@ -464,8 +487,8 @@ def help_texts(checks, wrapper):
         shutil.copytree(f"{TOP}/examples", f"{folder}/examples")
         os.symlink(wrapper, f"{folder}/lineage")
         lines = [command.example for command in commands.COMMANDS]
-        # The log of the examples comes first, and `expose` compares with that of its proof.
-        for text in sorted(lines, key=lambda line: "append" not in line):
+        # The log of the examples comes first, and `expose` comes last, which compares with that of its proof.
+        for text in sorted(lines, key=lambda line: ("append" not in line, " expose " in line)):
             if " expose " in text:
                 os.remove(f"{folder}/{LOG}")
                 run(wrapper, "append", SET_FILE, folder)

@@ -22,6 +22,7 @@ KINDS = ("hist", "back", "fwd")
 MAX_NUMBER = 4_294_967_295
 MAX_GENERATED_BLOCKS = 100_000
 EXAMPLE_ROOT = "41f6c6fc6bc756e479b796f7f09689670bee66ffad0189a20e5bf0574966869d"
+RECALL_ROOT = "c36b6bfd2dd652a721e6abe9223333c610a5b04e058325b35cf29fcea0a765ab"
 DECIMAL = "0|[1-9][0-9]{0,9}"
 WORDS = {
     "KIND": ("hist, back or fwd", "hist|back|fwd"),
@@ -56,8 +57,10 @@ class Command:
         # Whether it writes to the log, and so locks it.
         self.changes_log = uses.get("changes_log", False)
         self.uses_scratch = uses.get("uses_scratch", False)
-        self.checks_proof = self.input is PROOF
-        self.asks_for_block = "BLOCK" in form
+        self.checks_proof = self.input in (PROOF, TRACE_PROOF)
+        self.asks_for_block = "BLOCK" in form and (self.takes_frames or self.uses_log)
+        # Whether it asks about a block by the root at another one, which must not come before it.
+        self.asks_by_root = form.endswith(" BLOCK ROOTBLOCK")
 
     def forms(self):
         """Its words, as lists: with what may be left out, and without."""
@@ -83,6 +86,7 @@ class Command:
 
 BLOCKS = "a block file"
 PROOF = "a proof in hex digits"
+TRACE_PROOF = "a proof of ancestors in hex digits"
 BAD_FRAME = ("refused frame I CAUSE", "the frame with number I of the input, from 0, is refused")
 NO_BLOCK = ("beyond empty, beyond head H", "there is no block, or BLOCK is past the last one, H")
 NO_LOG = ("not a log, damaged at P", "what the bytes of chain.log are, at the offset P")
@@ -94,6 +98,10 @@ ANSWERS = [
     ),
     ("block B deps N", "back: the version's block, and N lines KEY BLOCK, what it was derived from"),
     ("block B uses N", "fwd: the version's block, and N lines KEY BLOCK, what was derived from it"),
+]
+ANCESTORS = [
+    ANSWERS[0],
+    ("block B ancestors N", "the version's block, and N lines KEY BLOCK, all that it was made from"),
 ]
 BAD_PROOF = [
     ("rejected CAUSE", "the first check of the proof that fails, and what it reports"),
@@ -182,6 +190,29 @@ COMMANDS = [
         uses_scratch=True,
     ),
     Command(
+        "trace KEY BLOCK",
+        "all that KEY at BLOCK was made from, by chain.log",
+        [*ANCESTORS, NO_BLOCK, NO_LOG],
+        "./lineage trace raw/shop/s1 2",
+        uses_log=True,
+        uses_scratch=True,
+    ),
+    Command(
+        "trace prove KEY BLOCK ROOTBLOCK",
+        "a proof of that, for one who has the root at ROOTBLOCK",
+        [("hex digits", "the bytes of the proof"), NO_BLOCK, NO_LOG],
+        "./lineage trace prove raw/shop/s1 2 2 > s1.proof",
+        uses_log=True,
+        uses_scratch=True,
+    ),
+    Command(
+        "trace verify ROOT KEY BLOCK",
+        "all that KEY at BLOCK was made from, by a proof and ROOT",
+        [*ANCESTORS, *BAD_PROOF],
+        f"./lineage trace verify {RECALL_ROOT} raw/shop/s1 2 < examples/shop-s1.proof",
+        input=TRACE_PROOF,
+    ),
+    Command(
         "fmt [2]",
         "the canonical text of a contract, with 2 of the second edition, or its first fault",
         [
@@ -268,11 +299,17 @@ def has_form(words):
 
 
 def command_of(words):
-    """The command whose form the words have."""
-    for command in beginning_with(words):
-        if form_of(command, words):
-            return command
-    return None
+    """The command whose form the words have; of several the one that has most of its own words."""
+
+    def own_words(command):
+        return sum(name == word for name, word in zip(form_of(command, words), words) if name not in WORDS)
+
+    return max(with_form(words), key=own_words, default=None)
+
+
+def with_form(words):
+    """The commands that have a form of as many words, and begin with the first."""
+    return [command for command in beginning_with(words) if form_of(command, words)]
 
 
 def form_of(command, words):
@@ -305,6 +342,7 @@ def what_is_wrong(words):
         return f"{count}, and the command is {forms}"
     for number, (name, word) in enumerate(zip(form_of(command, words), words), 1):
         if not may_be(name, word):
-            wanted = f"{name}: {WORDS[name][0]}" if name in WORDS else f"`{name}`"
+            own = " or ".join(f"`{form_of(each, words)[number - 1]}`" for each in with_form(words))
+            wanted = f"{name}: {WORDS[name][0]}" if name in WORDS else own
             return f"word {number}, `{word}`, is not {wanted}"
     return None

@@ -6,9 +6,10 @@ FIRST_BYTES = 4_096
 MAX_BLOCK_BYTES = 1_048_576
 MAGIC_OF_LOG = b"LCLOG1\n"
 MAGIC_OF_PROOF = b"LCP1"
+MAGIC_OF_TRACE = b"LCT1"
 # The versions of blocks, which stand in the first byte of each.
 FIRST_VERSION, SECOND_VERSION = VERSIONS = 1, 2
-LOG, DRAFT, PROOF, BYTES_OF_PROOF, BLOCK_FILE, CONTRACT = range(6)
+LOG, DRAFT, PROOF, TRACE, BYTES_OF_PROOF, BLOCK_FILE, CONTRACT = range(7)
 # What each is, and what to do with it.
 WHAT_TO_DO = {
     LOG: (
@@ -18,6 +19,7 @@ WHAT_TO_DO = {
     ),
     DRAFT: ("a draft, which is JSON", "pack it first, ./lineage pack < DRAFT > BLOCKS"),
     PROOF: ("a proof in hex", "`./lineage verify ROOT KIND KEY BLOCK` reads it"),
+    TRACE: ("a proof of ancestors in hex", "`./lineage trace verify ROOT KEY BLOCK` reads it"),
     BYTES_OF_PROOF: ("the bytes of a proof", "a proof is read in hex: xxd -p < PROOF | tr -d '\\n'"),
     BLOCK_FILE: ("a block file", "`./lineage append` and `./lineage scan KIND KEY BLOCK` read it"),
     CONTRACT: ("a contract", "`./lineage fmt` reads it; to deploy it, name it in a draft, and pack that"),
@@ -28,6 +30,7 @@ READS = {
     "append": BLOCK_FILE,
     "verify": PROOF,
     "expose": PROOF,
+    "trace": TRACE,
     "fmt": CONTRACT,
     "pack": DRAFT,
 }
@@ -38,10 +41,12 @@ def kind_of(first):
     length = int.from_bytes(first[:4], "big")
     if first[1:].startswith(MAGIC_OF_LOG):
         return LOG
-    if first.startswith(MAGIC_OF_PROOF):
+    if first.startswith((MAGIC_OF_PROOF, MAGIC_OF_TRACE)):
         return BYTES_OF_PROOF
-    if re.match(MAGIC_OF_PROOF.hex().encode(), first):
+    if first.startswith(MAGIC_OF_PROOF.hex().encode()):
         return PROOF
+    if first.startswith(MAGIC_OF_TRACE.hex().encode()):
+        return TRACE
     if 1 <= length <= MAX_BLOCK_BYTES and len(first) > 4 and first[4] in VERSIONS:
         return BLOCK_FILE
     if re.match(rb"\s*[\[{]", first):

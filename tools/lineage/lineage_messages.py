@@ -82,10 +82,22 @@ REJECTED = {
     "body": "the body of the proof has another digest than its header names",
     "list": "the uses of the proof are others than those that its leaf or header counts",
 }
-# Where the key of the question begins in a proof, after the magic, the kind and its length; and how many bytes a
-# question and these take at most.
+# The same of a proof of ancestors behind its start, whose version is item 0: what stands between `trace` and the number
+# of the item.
+REJECTED_TRACE = {
+    "late": "item {} is derived from a version that isn't of an earlier block",
+    "two": "item {} is derived from a version that another item names by another digest",
+    "extra": "nothing is left where item {} stands: the proof has an item too many",
+    "order": "item {} is not the version that comes next, which is the last one by block and then by key",
+    "header": "the header of item {} has another digest than what names it",
+    "body": "the body of item {} has another digest than its header names",
+    "missing": "an item {} is missing: what others were derived from has not come",
+}
+# Where the key of the question begins in a proof, after the magic, the kind and its length; how many bytes a question
+# and these take at most; and what stands before that in a proof of ancestors, the magic of that and a length.
 QUESTION_FRONT = 7
 MAX_QUESTION_BYTES = QUESTION_FRONT + 64 + 4
+TRACE_FRONT = 8
 NOT_ACCEPTED = "the proof is not accepted; docs/proofs.md has the checks"
 HEX_FAULTS = {
     "odd": "a proof is in hex, two digits a byte, and the number of digits is odd",
@@ -146,7 +158,7 @@ def beyond_sentence(words):
         return zeroed_sentence()
     if command and command.uses_log and not any(log_frames()):
         return f"{LOG_FILE} has no block yet"
-    if words[0] in ("prove", "expose") and int(words[-2]) > int(words[-1]):
+    if command and command.asks_by_root and int(words[-2]) > int(words[-1]):
         return "BLOCK is past ROOTBLOCK, and a root says nothing of later blocks"
     return "there is no such block: the chain ends before it"
 
@@ -377,9 +389,16 @@ def printed_again(program, words, start):
 def rejected_sentence(program, words, start):
     """Which check of a proof fails, where the input can be read again."""
     printed = b"" if start is None else printed_again(program, words, start)
-    rejected = re.match(r"rejected (\w+) ?(\w*)", printed.decode("ascii", "replace"))
+    line = printed.decode("ascii", "replace")
+    of_item = re.match(r"rejected trace (\w+) (\d+)", line)
+    if of_item and of_item[1] in REJECTED_TRACE:
+        return f"{NOT_ACCEPTED}: {REJECTED_TRACE[of_item[1]].format(of_item[2])}"
+    rejected = re.match(r"rejected (\w+) ?(\w*)", line)
     if not rejected or rejected[1] not in REJECTED:
         return NOT_ACCEPTED
+    advice = kind_advice(words, start) if rejected[1] == "malformed" else ""
+    if advice:
+        return advice
     if rejected[1] == "query":
         return f"{NOT_ACCEPTED}: {REJECTED['query']}{question_of(start)}"
     return f"{NOT_ACCEPTED}: {REJECTED[rejected[1]].format(rejected[2])}"
@@ -388,7 +407,10 @@ def rejected_sentence(program, words, start):
 def question_of(start):
     """Of which question a proof is, by its first fields (docs/proofs.md); the input has one, in hex."""
     with contextlib.suppress(OSError, ValueError, LookupError):
-        proof = bytes.fromhex(os.pread(0, 2 * MAX_QUESTION_BYTES, start).decode("ascii").strip())
+        digits = os.pread(0, 2 * (TRACE_FRONT + MAX_QUESTION_BYTES), start).decode("ascii").strip()
+        proof = bytes.fromhex(digits)
+        if proof.startswith(kinds.MAGIC_OF_TRACE):
+            proof = proof[TRACE_FRONT:]
         end = QUESTION_FRONT + int.from_bytes(proof[QUESTION_FRONT - 2 : QUESTION_FRONT], "big")
         key, block = proof[QUESTION_FRONT:end].decode("ascii"), int.from_bytes(proof[end : end + 4], "big")
         return f": {commands.KINDS[proof[4]]} {key} {block}"
@@ -408,15 +430,16 @@ def input_sentence(program, words, start):
     """What is wrong with an input."""
     from lineage import draft_faults
 
+    is_proof = commands.command_of(words).checks_proof
     if start is None:
-        return {"fmt": BAD_CONTRACT, "verify": NO_HEX, "expose": NO_HEX}.get(words[0], draft_faults.NO_DRAFT)
+        return NO_HEX if is_proof else BAD_CONTRACT if words[0] == "fmt" else draft_faults.NO_DRAFT
     printed = printed_again(program, words, start)
     if printed == b"badinput long\n":
         return TOO_LONG
     advice = kind_advice(words, start)
     if advice:
         return advice
-    if words[0] in ("verify", "expose"):
+    if is_proof:
         return hex_sentence(printed)
     with open("/proc/self/fd/0", "rb") as file:
         file.seek(start)

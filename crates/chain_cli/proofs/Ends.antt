@@ -20,6 +20,7 @@ use Rattle.cli_words.specs.declared.words.Edition.{Edition}
 use Rattle.cli_words.specs.declared.words.Command.TheVariants.{Scan, Fmt, Pack, Gen, Load, Append}
 use Rattle.cli_words.specs.declared.words.Command.TheVariants.{Upgrade}
 use Rattle.cli_words.specs.declared.words.Command.TheVariants.{Root, Ask, Prove, Verify, Expose}
+use Rattle.cli_words.specs.declared.words.Command.TheVariants.{Trace, ProveTrace, VerifyTrace}
 use Rattle.cli_append.specs.cli_lines.Outcome.{status_of}
 use Rattle.cli_append.specs.cli_lines.declared.outcome.Outcome.{Outcome}
 use Rattle.cli_append.specs.cli_lines.declared.outcome.Ending.{Ending}
@@ -189,6 +190,9 @@ changed_by (Ask kind key at) = inl refl
 changed_by (Prove query root_at) = inl refl
 changed_by (Verify root query) = inl refl
 changed_by (Expose root query root_at) = inl refl
+changed_by (Trace key at) = inl refl
+changed_by (ProveTrace key at root_at) = inl refl
+changed_by (VerifyTrace root key at) = inl refl
 
 pub others_keep : (command : Command) → (command ≡ Append → ⊥) → (command ≡ Upgrade → ⊥)
     → changes_log (Some command) ≡ false

@@ -8,3 +8,4 @@ pub mod Asked
 pub mod Ends
 pub mod Moments
 pub mod Held
+pub mod HeldTraces

@@ -1,12 +1,12 @@
 -- For an input of bytes and a disk of bytes, a command has exactly one output.
 use Rattle.std.proofs.Common.{◌≡◌, ℕ, zero, suc, ◌+◌, ◌-◌, ◌<◌, ◌≤◌, Bool, true, false, cond, eqb}
-use Rattle.std.proofs.Common.{ltb, leb, ◌&&◌, List, [], ◌∷◌, ◌++◌, length, take, drop, Option, Some}
+use Rattle.std.proofs.Common.{List, [], ◌∷◌, ◌++◌, length, take, drop, Option, Some}
 use Rattle.std.proofs.Common.{None, Result, Ok, Err, refl, sym, ap, ◌∙◌, inl, inr, subst, arith}
 use Rattle.std.specs.Int.{w32, from_be_bytes}
 use Rattle.std.proofs.lemmas.Bool.{cases_lt}
 use Rattle.byte_fields.specs.Spelling.{IsBytes}
 use Rattle.byte_fields.proofs.Pieces.{IsBytes-drop, IsBytes-take}
-use Rattle.block_codec.specs.declared.limits.TheConstants.{MAX_FRAMES, MAX_BLOCK_BYTES}
+use Rattle.block_codec.specs.declared.limits.TheConstants.{MAX_FRAMES}
 use Rattle.block_codec.specs.Placement.{digest_of}
 use Rattle.block_codec.specs.declared.placement.Placement.{Placement}
 use Rattle.block_log.specs.declared.layout.TheConstants.{OPEN_GATE, FIRST_GATE, MAX_RECORDS}
@@ -39,6 +39,12 @@ use Rattle.chain_input.specs.Folding.{fold_input}
 use Rattle.cli_output.specs.Output.{Output, output_of, scan_output, usage_output, long_output}
 use Rattle.cli_output.specs.Output.{pack_output, version_number, gen_output, load_output, append_output, append_to, upgrade_output}
 use Rattle.cli_output.specs.Output.{root_output, ask_output, prove_output, on_log, next_by}
+use Rattle.cli_output.specs.Output.{trace_output, prove_trace_output, IsVerifyTraceOutput}
+use Rattle.cli_output.specs.Output.{LongTrace, VerifiedTrace}
+use Rattle.cli_output.specs.Traces.{trace_verification_outcome}
+use Rattle.trace_commands.specs.Verifying.{trace_verification}
+use Rattle.trace_commands.specs.declared.verification.TraceVerification.{TraceVerification}
+use Rattle.trace_commands.proofs.Traced.{is_trace_verification, one_told}
 use Rattle.cli_output.specs.Output.{edition_number, source_outcome, IsFmtOutput, Long, Source, IsVerifyOutput}
 use Rattle.cli_output.specs.Output.{LongProof, Verified, IsExposeOutput, IsOnLog, Wants, IsWanted}
 use Rattle.cli_output.specs.Output.{IsOneOutput}
@@ -48,6 +54,7 @@ use Rattle.cli_output.proofs.Meets.{some_on_log, one_on_log}
 use Rattle.cli_words.specs.declared.words.Command.{Command}
 use Rattle.cli_words.specs.declared.words.Command.TheVariants.{Scan, Fmt, Pack, Gen, Load, Append, Upgrade}
 use Rattle.cli_words.specs.declared.words.Command.TheVariants.{Root, Ask, Prove, Verify, Expose}
+use Rattle.cli_words.specs.declared.words.Command.TheVariants.{Trace, ProveTrace, VerifyTrace}
 
 -- ---- the fold, by two decoders that are right
 
@@ -134,6 +141,18 @@ some_verify root query input =
       | inr fits ↦ (output_of (verification_outcome (verification root query input)) [], Verified fits (verification root query input) (is_verification root query input))
     ]
 
+some_verify_trace : (root key : List ℕ) (at : ℕ) (input : List ℕ)
+    → (output : Output) × IsVerifyTraceOutput root key at input output
+some_verify_trace root key at input =
+    elim (cases_lt MAX_WHOLE_INPUT_BYTES (length input)) [
+      | inl long ↦ (long_output input, LongTrace long)
+      | inr fits ↦
+          let told = trace_verification root key at input in (
+            output_of (trace_verification_outcome told) [],
+            VerifiedTrace fits told (is_trace_verification root key at input),
+          )
+    ]
+
 -- a command, or words that are none, has an output
 pub some_output : (command : Option Command) (input content : List ℕ)
     → (output : Output) × Wants block_in compiled_in command input content output
@@ -149,6 +168,17 @@ some_output (Some (Root at)) input content = (on_log (λ logged. root_output com
 some_output (Some (Ask kind key at)) input content = (on_log (λ logged. ask_output compiled_in kind key at input logged.blocks) input (standing (next_by block_in compiled_in) content), refl)
 some_output (Some (Prove query root_at)) input content = (on_log (λ logged. prove_output compiled_in query root_at input logged.blocks) input (standing (next_by block_in compiled_in) content), refl)
 some_output (Some (Verify root query)) input content = some_verify root.0 query input
+some_output (Some (Trace key at)) input content = (
+  on_log (λ logged. trace_output compiled_in key at input logged.blocks) input
+      (standing (next_by block_in compiled_in) content),
+  refl,
+)
+some_output (Some (ProveTrace key at root_at)) input content = (
+  on_log (λ logged. prove_trace_output compiled_in key at root_at input logged.blocks) input
+      (standing (next_by block_in compiled_in) content),
+  refl,
+)
+some_output (Some (VerifyTrace root key at)) input content = some_verify_trace root.0 key at input
 some_output (Some (Expose root query root_at)) input content =
     let over : Logged → Output = λ logged. (some_expose root.0 query input compiled_in root_at logged.blocks).0 in
     let stands : Standing = standing (next_by block_in compiled_in) content in
@@ -191,6 +221,17 @@ only_verify root query input _ _ (LongProof long) (Verified fits told is) = absu
 only_verify root query input _ _ (Verified fits told is) (LongProof long) = absurd (omega (arith, long, fits))
 only_verify root query input _ _ (Verified _ told is) (Verified _ other i) = ap (λ (v : Verification). output_of (verification_outcome v) []) (one_answer root query input told other is i)
 
+only_verify_trace : (root key : List ℕ) (at : ℕ) (input : List ℕ) (a b : Output)
+    → IsVerifyTraceOutput root key at input a → IsVerifyTraceOutput root key at input b → a ≡ b
+only_verify_trace root key at input _ _ (LongTrace _) (LongTrace _) = refl
+only_verify_trace root key at input _ _ (LongTrace long) (VerifiedTrace fits told is) =
+    absurd (omega (arith, long, fits))
+only_verify_trace root key at input _ _ (VerifiedTrace fits told is) (LongTrace long) =
+    absurd (omega (arith, long, fits))
+only_verify_trace root key at input _ _ (VerifiedTrace _ told is) (VerifiedTrace _ other i) =
+    ap (λ (t : TraceVerification). output_of (trace_verification_outcome t) [])
+    (one_told root key at input told other is i)
+
 -- by any right decoder, the output for bytes is the same
 same_output : (read : Decoder) (compile : Compiler) → IsDecoder read → compile ≡ compiled_in
     → (command : Option Command) (input content : List ℕ) → IsBytes input → IsBytes content
@@ -223,6 +264,23 @@ same_output read compile is_read compile_is (Some (Prove query root_at)) input c
     is ∙ ap (λ (c : Compiler). on_log (λ logged. prove_output c query root_at input logged.blocks) input (standing (next_by read c) content)) compile_is
     ∙ ap (on_log (λ logged. prove_output compiled_in query root_at input logged.blocks) input) (standing_same (placement_by_mark compiled_in) read block_in is_read decided content whole)
 same_output read compile is_read compile_is (Some (Verify root query)) input content fits whole other is = only_verify root.0 query input other (some_verify root.0 query input).0 is (some_verify root.0 query input).1
+same_output read compile is_read compile_is (Some (Trace key at)) input content fits whole
+    other is =
+    is ∙ ap (λ (c : Compiler). on_log (λ logged. trace_output c key at input logged.blocks) input
+    (standing (next_by read c) content)) compile_is
+    ∙ ap (on_log (λ logged. trace_output compiled_in key at input logged.blocks) input)
+    (standing_same (placement_by_mark compiled_in) read block_in is_read decided content whole)
+same_output read compile is_read compile_is (Some (ProveTrace key at root_at)) input content fits
+    whole other is =
+    is ∙ ap (λ (c : Compiler). on_log (λ logged.
+    prove_trace_output c key at root_at input logged.blocks) input
+    (standing (next_by read c) content)) compile_is
+    ∙ ap (on_log (λ logged. prove_trace_output compiled_in key at root_at input logged.blocks)
+    input) (standing_same (placement_by_mark compiled_in) read block_in is_read decided content
+    whole)
+same_output read compile is_read compile_is (Some (VerifyTrace root key at)) input content fits
+    whole other is = only_verify_trace root.0 key at input other
+    (some_verify_trace root.0 key at input).0 is (some_verify_trace root.0 key at input).1
 same_output read compile is_read compile_is (Some (Expose root query root_at)) input content fits whole other is =
     let some = some_output (Some (Expose root query root_at)) input content in
     let compiled : IsOnLog (λ logged. IsExposeOutput compiled_in root.0 query root_at input logged.blocks) input (standing (next_by read compiled_in) content) other =

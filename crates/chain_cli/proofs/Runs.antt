@@ -1,9 +1,8 @@
 -- What is found for each command, and whole runs: they have the output of their command.
-use Rattle.std.proofs.Common.{◌≡◌, ℕ, ◌+◌, Bool, true, false, cond, List, [], ◌∷◌, ◌++◌, map}
+use Rattle.std.proofs.Common.{◌≡◌, ℕ, ◌+◌, Bool, true, false, cond, List, [], ◌∷◌, map}
 use Rattle.std.proofs.Common.{inl, inr, Option, Some, None, Result, Ok, Err, refl, sym, ap, ◌∙◌, subst}
 use Rattle.std.specs.Prelude.{IfOk, IfSome, is_ok}
 use Rattle.std.specs.Option.{is_some}
-use Rattle.std.proofs.lemmas.List.{append-nil}
 use Rattle.lc_io.specs.Disk.{DiskState, Stays}
 use Rattle.lc_io.specs.Outside.{Tell}
 use Rattle.disk_model.specs.Disk.{IsSettled, Keeps, Rests, content_of}
@@ -42,6 +41,7 @@ use Rattle.cli_words.specs.declared.words.Edition.{Edition}
 use Rattle.cli_words.specs.declared.words.Command.TheVariants.{Scan, Fmt, Pack, Gen, Load, Append}
 use Rattle.cli_words.specs.declared.words.Command.TheVariants.{Upgrade}
 use Rattle.cli_words.specs.declared.words.Command.TheVariants.{Root, Ask, Prove, Verify, Expose}
+use Rattle.cli_words.specs.declared.words.Command.TheVariants.{Trace, ProveTrace, VerifyTrace}
 use Rattle.cli_append.specs.cli_lines.Lines.{usage_line}
 use Rattle.cli_append.specs.cli_lines.Outcome.{status_of, outcome_with}
 use Rattle.cli_append.specs.cli_lines.declared.outcome.Outcome.{Outcome}
@@ -57,6 +57,10 @@ use Rattle.cli_output.specs.Output.{answer_outcome, root_outcome, prove_outcome,
 use Rattle.cli_output.specs.Output.{edition_number, version_number, IsFmtOutput, Long, Source}
 use Rattle.cli_output.specs.Output.{IsVerifyOutput}
 use Rattle.cli_output.specs.Output.{LongProof, Verified}
+use Rattle.cli_output.specs.Output.{trace_output, trace_outcome, prove_trace_output}
+use Rattle.cli_output.specs.Output.{prove_trace_outcome, IsVerifyTraceOutput, LongTrace}
+use Rattle.cli_output.specs.Output.{VerifiedTrace}
+use Rattle.cli_output.specs.Scanning.{IsVerifyTraceOutcome}
 use Rattle.cli_output.specs.Output.{root_output, ask_output, prove_output, IsExposeOutput, Wants}
 use Rattle.cli_output.specs.Uses.{changes_log, reads_input, uses_disk, uses_scratch}
 use Rattle.cli_output.specs.Running.{came_to_end, leaves, is_no_change, Meets, IsGiven, IsRun}
@@ -149,6 +153,11 @@ verify_no_change : (root : List ℕ) (query : Query) (input : List ℕ) (output 
 verify_no_change root query input _ (LongProof long) = refl
 verify_no_change root query input _ (Verified fits told is) = refl
 
+verify_trace_no_change : (root key : List ℕ) (at : ℕ) (input : List ℕ) (output : Output)
+    → IsVerifyTraceOutput root key at input output → output.change ≡ NoChange
+verify_trace_no_change root key at input _ (LongTrace long) = refl
+verify_trace_no_change root key at input _ (VerifiedTrace fits told is) = refl
+
 pack_no_change : (long : Bool) (a b : Output) → a.change ≡ NoChange → b.change ≡ NoChange
     → (cond long a b).change ≡ NoChange
 pack_no_change true a b is_a is_b = is_a
@@ -183,6 +192,17 @@ no_change (Some (Prove query root_at)) input content output quiet is = ap
     (standing next_in_chain content)
 no_change (Some (Verify root query)) input content output quiet is = verify_no_change root.0 query
     input output is
+no_change (Some (Trace key at)) input content output quiet is = ap (λ (o : Output). o.change) is
+    ∙ on_log_no_change (λ logged. trace_output compiled_in key at input logged.blocks)
+    (λ logged. refl) input
+    (standing next_in_chain content)
+no_change (Some (ProveTrace key at root_at)) input content output quiet is = ap
+    (λ (o : Output). o.change) is
+    ∙ on_log_no_change (λ logged. prove_trace_output compiled_in key at root_at input logged.blocks)
+    (λ logged. refl) input
+    (standing next_in_chain content)
+no_change (Some (VerifyTrace root key at)) input content output quiet is =
+    verify_trace_no_change root.0 key at input output is
 no_change (Some (Expose root query root_at)) input content output quiet is = is_on_log_no_change
     (λ logged. IsExposeOutput compiled_in root.0 query root_at input logged.blocks)
     (λ logged. expose_no_change compiled_in root.0 query root_at input logged.blocks) input
@@ -242,6 +262,13 @@ module _ (state : Option DiskState) (found : Result Outcome OutcomeStop)
   verify_found root query is heard input content given_input given =
       read_found (IsVerifyOutput root.0 query) found left_old left_new is input given_input
 
+  pub verify_trace_found : (root : Digest) (key : List ℕ) (at : ℕ)
+      → IfSome left_old (λ input. IfOk found
+      (λ outcome. IsVerifyTraceOutcome root.0 key at outcome left_new input))
+      → IsFoundFor state left_old left_new held (Some (VerifyTrace root key at)) found
+  verify_trace_found root key at is heard input content given_input given =
+      read_found (IsVerifyTraceOutput root.0 key at) found left_old left_new is input given_input
+
   pub of_found : (command given : Command) → command ≡ given
       → IsFoundFor state left_old left_new held (Some given) found
       → IsFoundFor state left_old left_new held (Some command) found
@@ -287,6 +314,24 @@ module _ (kept : ChainState) (found : Result Outcome OutcomeStop) where
       unread_found (prove_outcome compiled_in query root_at blocks) found false left input given
       (of_blocks found (StandsFor kept) (λ b o. o ≡ prove_outcome compiled_in query root_at b) is
       blocks stands)
+
+  pub trace_over : (key : List ℕ) (at : ℕ) (left : Option (List ℕ))
+      → IfOk found (λ outcome. (blocks : List Block) → StandsFor kept blocks
+      → outcome ≡ trace_outcome compiled_in key at blocks)
+      → IsFoundOver kept left left (Trace key at) found
+  trace_over key at left is input given blocks stands =
+      unread_found (trace_outcome compiled_in key at blocks) found false left input given
+      (of_blocks found (StandsFor kept) (λ b o. o ≡ trace_outcome compiled_in key at b) is
+      blocks stands)
+
+  pub prove_trace_over : (key : List ℕ) (at root_at : ℕ) (left : Option (List ℕ))
+      → IfOk found (λ outcome. (blocks : List Block) → StandsFor kept blocks
+      → outcome ≡ prove_trace_outcome compiled_in key at root_at blocks)
+      → IsFoundOver kept left left (ProveTrace key at root_at) found
+  prove_trace_over key at root_at left is input given blocks stands =
+      unread_found (prove_trace_outcome compiled_in key at root_at blocks) found false left input
+      given (of_blocks found (StandsFor kept)
+      (λ b o. o ≡ prove_trace_outcome compiled_in key at root_at b) is blocks stands)
 
   every_block : (root : Digest) (query : Query) (root_at : ℕ) (left_old left_new : Option (List ℕ))
       (blocks : List Block) → StandsFor kept blocks

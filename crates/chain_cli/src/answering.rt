@@ -27,6 +27,7 @@ use crate::scan::scan;
 use cli_append::{Node, Outcome, stored_chain};
 use cli_output::{OutcomeStop, start_outcome};
 use cli_proofs::{Lineage, expose, prove, verify};
+use cli_traces::{prove_trace, trace, verify_trace};
 use cli_words::Command;
 use disk_model::Disk;
 use lc_base::{Key, Kind};
@@ -86,6 +87,10 @@ fn lineage_outcome<I: Source, S: Scratch>(
             query,
             root_at,
         } => expose(alloc, root, query, *root_at, lineage, source, scratch),
+        Command::Trace { key, at } => trace(alloc, key, *at, lineage, scratch),
+        Command::ProveTrace { key, at, root_at } => {
+            prove_trace(alloc, key, *at, *root_at, lineage, scratch)
+        }
         _ => unreachable!(),
     }
 }
@@ -151,9 +156,12 @@ pub fn find<I: Source, M: Disk, S: Scratch>(
         Command::Load(generation) => load_outcome(resources, scratch, generation),
         Command::Ask { kind, key, at } => ask_rows(resources, *kind, *key, *at, machine),
         Command::Verify { root, query } => verify(alloc, root, query, source),
-        Command::Root(_) | Command::Prove { .. } | Command::Expose { .. } => {
-            ask_lineage(resources, command, source, machine, scratch)
-        }
+        Command::VerifyTrace { root, key, at } => verify_trace(alloc, root, key, *at, source),
+        Command::Root(_)
+        | Command::Prove { .. }
+        | Command::Expose { .. }
+        | Command::Trace { .. }
+        | Command::ProveTrace { .. } => ask_lineage(resources, command, source, machine, scratch),
         Command::Gen(_) | Command::Append | Command::Upgrade => unreachable!(),
     }
 }

@@ -18,7 +18,7 @@ ghost use Rattle.crash_promises.specs.Promises.{MayLeaveAny};
 ghost use Rattle.cli_output.specs.{
   Output.{FormatsAgain, IsWanted, IsOneOutput, log_next_by, next_by},
   Running.{IsRun, IsSilent, MayEnd, found_no_log},
-  Showing.{VerifiedAnswersHold, WrongAnswersAreTold},
+  Showing.{VerifiedAnswersHold, VerifiedTracesHold, WrongAnswersAreTold},
   Telling.{status_of_result},
   Uses.{reads_input, uses_disk, uses_scratch, changes_log, tells_as_it_goes},
 };
@@ -114,7 +114,7 @@ fn run_words<I: Source, M: Disk + Wire, S: Scratch>(
 
 /// Everything that the program does: it reads the words, the input and the disk, keeps bodies of
 /// versions on the scratch device, prints the lines, and appends to the log or marks it.
-#[tactic(auto, using(crate::proofs::OneOutput::one_output, crate::proofs::Formatted::formats_again, crate::proofs::Held::verified_holds, cli_output::proofs::WrongTold::wrong_answers_are_told, block_codec::proofs::WholeBlocks::decided, crate::proofs::OneOutput::compiled_by))]
+#[tactic(auto, using(crate::proofs::OneOutput::one_output, crate::proofs::Formatted::formats_again, crate::proofs::Held::verified_holds, crate::proofs::HeldTraces::verified_traces_hold, cli_output::proofs::WrongTold::wrong_answers_are_told, block_codec::proofs::WholeBlocks::decided, crate::proofs::OneOutput::compiled_by))]
 pub fn run<I: Source, M: Disk + Wire, S: Scratch>(
     resources: Resources,
     words: &[String],
@@ -144,6 +144,11 @@ pub fn run<I: Source, M: Disk + Wire, S: Scratch>(
     // For a proof that is accepted with another answer than that of a chain with the root, `expose`
     // prints a text of the proof and one of that chain's ledger that differ and have one digest.
     ensures exposed { (root : List ℕ) (query : Query) (root_at : ℕ) (input : List ℕ) → WrongAnswersAreTold root query root_at input }
+    // The ancestors that `trace verify` prints are those of replaying any chain with the root, up to
+    // the block at which the chain has it; or a text of the proof and one of that chain's ledger
+    // differ and have one digest.
+    ensures traced { (root key : List ℕ) (at : ℕ) (input : List ℕ)
+        → VerifiedTracesHold root key at input }
     // Whatever the source has left, if the disk is known, and which bytes the scratch device holds:
     // a crash at any moment leaves what the disk held, or the chain of that with further blocks, or
     // marked.

@@ -6,6 +6,7 @@ use Rattle.lc_base.specs.declared.value.Value.TheVariants.{Int, Text, Gone}
 use Rattle.lc_base.specs.declared.answer.Answer.{Answer}
 use Rattle.lc_base.specs.declared.answer.Answer.TheVariants.{Nothing, Hist, Back, Fwd}
 use Rattle.lc_base.specs.declared.row.Dep.{Dep}
+use Rattle.row_ancestors.specs.declared.trace.Trace.{Trace}
 use Rattle.contract_parse.specs.declared.source.SyntaxKind.{SyntaxKind}
 use Rattle.contract_parse.specs.declared.source.SyntaxKind.TheVariants as syntax
 use Rattle.contract_check.specs.declared.fault.Fault.{Fault}
@@ -39,6 +40,14 @@ answer_lines Nothing = line (codes "none") ∷ []
 answer_lines (Hist block tx value) = line (codes "block " ++ decimal block ++ codes " tx " ++ decimal tx ++ codes " " ++ value_text value) ∷ []
 answer_lines (Back block deps) = line (codes "block " ++ decimal block ++ codes " deps " ++ decimal (length deps)) ∷ map dep_line deps
 answer_lines (Fwd block uses) = line (codes "block " ++ decimal block ++ codes " uses " ++ decimal (length uses)) ∷ map dep_line uses
+
+-- The lines of a version with its ancestors: its block and their number, and one more for each of
+-- them; `none` if there is no version.
+abbrev pub trace_lines : Option Trace → List (List ℕ)
+trace_lines None = line (codes "none") ∷ []
+trace_lines (Some trace) =
+    line (codes "block " ++ decimal trace.block ++ codes " ancestors " ++ decimal (length trace.ancestors))
+    ∷ map dep_line trace.ancestors
 
 -- The line for words that are no command.
 abbrev pub usage_line : List ℕ

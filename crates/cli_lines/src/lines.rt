@@ -4,12 +4,13 @@ ghost use Rattle.std.specs.{
   Prelude.{◌≡◌, [], ◌∷◌, ◌++◌, codes, decimal, map, string_bytes, IfOk},
   Fmt.{signed_decimal},
 };
-ghost use Rattle.cli_lines.specs.Lines.{usage_line, beyond_line, misplaced_text, refusal_text, cause_text, refused_line, value_text, dep_line, answer_lines, bad_input_line, not_a_log_line, damaged_line, upgraded_line, already_upgraded_line, root_line, line};
+ghost use Rattle.cli_lines.specs.Lines.{usage_line, beyond_line, misplaced_text, refusal_text, cause_text, refused_line, value_text, dep_line, answer_lines, trace_lines, bad_input_line, not_a_log_line, damaged_line, upgraded_line, already_upgraded_line, root_line, line};
 ghost use Rattle.hex.specs.Hex.{encode_lower};
 
 use chain_input::{Cause, Misplaced, Refusal};
 use digest_kit::digest_text;
 use lc_base::{Answer, Bytes, Dep, DepList, Digest, Memory, Seq, Value};
+use row_ancestors::Trace;
 use std::alloc::{AllocError, Global};
 
 /// A line of this text.
@@ -249,5 +250,26 @@ fn hist_line(alloc: Global, block: u32, tx: u16, value: &Value) -> Result<Bytes,
         Value::Int(number) => int_line(alloc, block, tx, *number),
         Value::Text(text) => text_line(alloc, block, tx, text.as_bytes()),
         Value::Gone => gone_line(alloc, block, tx),
+    }
+}
+
+fn trace_head(alloc: Global, block: u32, count: usize) -> Result<Bytes, Memory>
+    ensures { IfOk result (λ bytes. bytes ≡ line (codes "block " ++ decimal block ++ codes " ancestors " ++ decimal count)) }
+{
+    let text = format!(in alloc; "block {block} ancestors {count}")?;
+    line(alloc, text.as_str())
+}
+
+/// The lines of a version with its ancestors: one, and one more for each of them; `none` if there is
+/// no version.
+pub fn trace_lines(alloc: Global, trace: &Option<Trace>) -> Result<Seq<Bytes>, Memory>
+    ensures { IfOk result (λ lines. lines ≡ trace_lines trace.now) }
+{
+    match trace {
+        None => one_line(alloc, line(alloc, "none")?),
+        Some(trace) => {
+            let head = trace_head(alloc, trace.block, trace.ancestors.len())?;
+            dep_lines(alloc, head, trace.ancestors.as_slice())
+        }
     }
 }

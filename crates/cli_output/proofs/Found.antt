@@ -14,7 +14,9 @@ use Rattle.cli_append.specs.cli_lines.declared.outcome.Outcome.{Outcome}
 use Rattle.cli_words.specs.declared.words.Command.{Command}
 use Rattle.cli_words.specs.declared.words.Command.TheVariants.{Scan, Fmt, Pack, Gen, Load, Append, Upgrade}
 use Rattle.cli_words.specs.declared.words.Command.TheVariants.{Root, Ask, Prove, Verify, Expose}
+use Rattle.cli_words.specs.declared.words.Command.TheVariants.{Trace, ProveTrace, VerifyTrace}
 use Rattle.cli_output.specs.Output.{Output, output_of, root_output, ask_output, prove_output}
+use Rattle.cli_output.specs.Output.{trace_output, prove_trace_output}
 use Rattle.cli_output.specs.Output.{IsOnLog, Wants}
 use Rattle.cli_output.specs.Uses.{ChainUse, NoChain, InputRows, LogRows, LogLineage, MadeLineage}
 use Rattle.cli_output.specs.Uses.{LogAppended, LogMarked, use_of, is_log_lineage, is_log_asked}
@@ -135,6 +137,12 @@ log_wanted (Ask kind key at) asks input content output is = on_log_is
 log_wanted (Prove query root_at) asks input content output is = on_log_is
     (λ logged. prove_output compiled_in query root_at input logged.blocks) input (standing next_in_chain content) output is
 log_wanted (Expose root query root_at) asks input content output is = is
+log_wanted (Trace key at) asks input content output is = on_log_is
+    (λ logged. trace_output compiled_in key at input logged.blocks) input
+    (standing next_in_chain content) output is
+log_wanted (ProveTrace key at root_at) asks input content output is = on_log_is
+    (λ logged. prove_trace_output compiled_in key at root_at input logged.blocks) input
+    (standing next_in_chain content) output is
 log_wanted (Scan query) asks input content output is = absurd (cc asks)
 log_wanted (Fmt edition) asks input content output is = absurd (cc asks)
 log_wanted (Pack version) asks input content output is = absurd (cc asks)
@@ -143,6 +151,7 @@ log_wanted (Load generation) asks input content output is = absurd (cc asks)
 log_wanted Append asks input content output is = absurd (cc asks)
 log_wanted Upgrade asks input content output is = absurd (cc asks)
 log_wanted (Verify root query) asks input content output is = absurd (cc asks)
+log_wanted (VerifyTrace root key at) asks input content output is = absurd (cc asks)
 
 -- their chain was started
 pub asked_found : (state : Option DiskState) (command : Command) (kept : ChainState)

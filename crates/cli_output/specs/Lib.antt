@@ -1,6 +1,7 @@
 pub mod Texts
 pub mod Blocks
 pub mod Proofs
+pub mod Traces
 pub mod LoadLine
 pub mod Output
 pub mod Uses

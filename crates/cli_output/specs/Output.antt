@@ -40,6 +40,11 @@ use Rattle.replay_soundness.specs.Soundness.{replayed_texts}
 use Rattle.text_clashes.specs.FirstClash.{IsFirstClash}
 use Rattle.proof_commands.specs.Verifying.{IsVerification}
 use Rattle.proof_commands.specs.declared.verification.Verification.{Verification}
+use Rattle.row_ancestors.specs.Ancestors.{trace_at}
+use Rattle.trace_checks.specs.declared.trace_proof.TraceProof.{TraceProof}
+use Rattle.trace_checks.specs.Making.{made_trace}
+use Rattle.trace_commands.specs.Verifying.{IsTraceVerification}
+use Rattle.trace_commands.specs.declared.verification.TraceVerification.{TraceVerification}
 use Rattle.cli_words.specs.declared.words.Edition.{Edition}
 use Rattle.cli_words.specs.declared.words.Edition.TheVariants as editions
 use Rattle.cli_words.specs.declared.words.BlockVersion.{BlockVersion}
@@ -48,9 +53,11 @@ use Rattle.cli_words.specs.declared.words.Generation.{Generation}
 use Rattle.cli_words.specs.declared.words.Command.{Command}
 use Rattle.cli_words.specs.declared.words.Command.TheVariants.{Scan, Fmt, Pack, Gen, Load, Append, Upgrade}
 use Rattle.cli_words.specs.declared.words.Command.TheVariants.{Root, Ask, Prove, Verify, Expose}
+use Rattle.cli_words.specs.declared.words.Command.TheVariants.{Trace, ProveTrace, VerifyTrace}
 use Rattle.cli_append.specs.cli_lines.Lines.{usage_line, beyond_line, root_line}
 use Rattle.cli_output.specs.LoadLine.{load_line}
-use Rattle.cli_append.specs.cli_lines.Lines.{refused_line, answer_lines, syntax_cause, check_cause}
+use Rattle.cli_append.specs.cli_lines.Lines.{refused_line, answer_lines, trace_lines, syntax_cause}
+use Rattle.cli_append.specs.cli_lines.Lines.{check_cause}
 use Rattle.cli_append.specs.cli_lines.Lines.{not_a_log_line, damaged_line}
 use Rattle.cli_append.specs.cli_lines.Outcome.{status_of, outcome_with, bad_input}
 use Rattle.cli_append.specs.cli_lines.declared.whole.TheConstants.{MAX_WHOLE_INPUT_BYTES}
@@ -63,6 +70,7 @@ use Rattle.cli_output.specs.Texts.{lines_of}
 use Rattle.cli_output.specs.Blocks.{frame, draft_outcome}
 use Rattle.cli_output.specs.Proofs.{proof_line, verification_outcome, is_accepted, IsAcceptedHex}
 use Rattle.cli_output.specs.Proofs.{clash_outcome}
+use Rattle.cli_output.specs.Traces.{trace_proof_line, trace_verification_outcome}
 
 -- ---- outputs
 
@@ -169,6 +177,15 @@ pub data IsVerifyOutput (root : List ℕ) (query : Query) (input : List ℕ) : O
       → IsVerifyOutput root query input (long_output input)
   Verified : FitsInput input → (told : Verification) → IsVerification root query input told →
       IsVerifyOutput root query input (output_of (verification_outcome told) [])
+
+-- The output of `trace verify` for an input and a root: the outcome of verifying the proof of
+-- ancestors that the input is, in hex, or that it is too long.
+pub data IsVerifyTraceOutput (root key : List ℕ) (at : ℕ) (input : List ℕ) : Output → Type 0 where
+  LongTrace : MAX_WHOLE_INPUT_BYTES < length input
+      → IsVerifyTraceOutput root key at input (long_output input)
+  VerifiedTrace : FitsInput input → (told : TraceVerification)
+      → IsTraceVerification root key at input told
+      → IsVerifyTraceOutput root key at input (output_of (trace_verification_outcome told) [])
 
 -- The number of a version of blocks.
 abbrev pub version_number : BlockVersion → ℕ
@@ -296,6 +313,36 @@ abbrev pub prove_output : Compiler → Query → ℕ → List ℕ → List Block
 prove_output compile query root_at input blocks =
     output_of (prove_outcome compile query root_at blocks) input
 
+-- The outcome of `trace` for a block of a chain: the last version of the key up to it, with its
+-- ancestors, if the chain has the block.
+abbrev pub trace_outcome : Compiler → List ℕ → ℕ → List Block → Outcome
+trace_outcome compile key at blocks =
+    outcome_at at blocks (trace_lines (trace_at (replay compile blocks).rows key at))
+
+-- The output of `trace` over the blocks of the log. It leaves the input.
+abbrev pub trace_output : Compiler → List ℕ → ℕ → List ℕ → List Block → Output
+trace_output compile key at input blocks = output_of (trace_outcome compile key at blocks) input
+
+-- The proof that is made of the ancestors of a version over the blocks of a chain, for one who has
+-- the root at a block.
+abbrev pub made_trace_in : Compiler → List Block → List ℕ → ℕ → ℕ → TraceProof
+made_trace_in compile blocks key at root_at =
+    made_trace (replay compile blocks).rows (map digest_of blocks) root_at key at
+
+-- The outcome of `trace prove`: the line of the proof, if the chain has the block of the root and
+-- the version is of no later one.
+abbrev pub prove_trace_outcome : Compiler → List ℕ → ℕ → ℕ → List Block → Outcome
+prove_trace_outcome compile key at root_at blocks =
+    if nat_le at root_at && nat_lt root_at (length blocks)
+    then outcome_with (trace_proof_line (made_trace_in compile blocks key at root_at) ∷ [])
+    endings.Done
+    else beyond_head blocks
+
+-- The output of `trace prove` over the blocks of the log. It leaves the input.
+abbrev pub prove_trace_output : Compiler → List ℕ → ℕ → ℕ → List ℕ → List Block → Output
+prove_trace_output compile key at root_at input blocks =
+    output_of (prove_trace_outcome compile key at root_at blocks) input
+
 -- The blocks reach the block of the root, and the question is about no later one.
 abbrev pub Reach : List Block → Query → ℕ → Type 0
 Reach blocks query root_at = (root_at < length blocks) × (query.at ≤ root_at)
@@ -340,6 +387,14 @@ Wants read compile (Some (Prove query root_at)) input content output =
 Wants read compile (Some (Verify root query)) input content output = IsVerifyOutput root.0 query input output
 Wants read compile (Some (Expose root query root_at)) input content output =
     IsOnLog (λ logged. IsExposeOutput compile root.0 query root_at input logged.blocks) input (standing (next_by read compile) content) output
+Wants read compile (Some (Trace key at)) input content output =
+    output ≡ on_log (λ logged. trace_output compile key at input logged.blocks) input
+    (standing (next_by read compile) content)
+Wants read compile (Some (ProveTrace key at root_at)) input content output =
+    output ≡ on_log (λ logged. prove_trace_output compile key at root_at input logged.blocks) input
+    (standing (next_by read compile) content)
+Wants read compile (Some (VerifyTrace root key at)) input content output =
+    IsVerifyTraceOutput root.0 key at input output
 
 -- This is the output of the command, by a right decoder and a right compiler.
 abbrev pub IsWanted : Option Command → List ℕ → List ℕ → Output → Type 0

@@ -1,4 +1,5 @@
--- What the answer that `verify` prints proves, and what `expose` prints for a wrong one.
+-- What the answer that `verify` prints proves, what `expose` prints for a wrong one, and what the
+-- ancestors that `trace verify` prints prove.
 use Rattle.std.specs.Prelude.{◌≡◌, ◌≢◌, ◌⊎◌, ◌≤◌, ℕ, List, [], ◌∷◌, map, Ok}
 use Rattle.hex.specs.Hex.{decode_of}
 use Rattle.lc_base.specs.declared.answer.Answer.{Answer}
@@ -13,10 +14,14 @@ use Rattle.proof_commands.specs.Verifying.{hex_text, IsVerification}
 use Rattle.proof_commands.specs.declared.verification.Verification.TheVariants.{Accepted}
 use Rattle.replay_soundness.specs.Soundness.{HasRoot, replayed_answer, replayed_texts}
 use Rattle.replay_soundness.specs.Soundness.{ClashesWithReplay}
+use Rattle.replay_soundness.specs.Traces.{replayed_trace, TraceClashesWithReplay}
+use Rattle.trace_checks.specs.declared.trace_proof.TraceProof.{TraceProof}
+use Rattle.trace_checks.specs.Spelling.{SpellsTrace}
 use Rattle.crash_promises.specs.Promises.{Line, plain}
-use Rattle.cli_append.specs.cli_lines.Lines.{answer_lines}
+use Rattle.cli_append.specs.cli_lines.Lines.{answer_lines, trace_lines}
 use Rattle.cli_append.specs.cli_lines.declared.status.Status.TheVariants as statuses
 use Rattle.cli_output.specs.Output.{Output, FitsInput, IsVerifyOutput, IsExposeOutput}
+use Rattle.cli_output.specs.Output.{IsVerifyTraceOutput}
 use Rattle.cli_output.specs.Proofs.{clash_line}
 
 -- The input is this proof in hex.
@@ -53,3 +58,26 @@ WrongAnswersAreTold root query root_at input =
     → HasRoot compile blocks root_at root → query.at ≤ root_at → FitsInput input → IsVerification root query input (Accepted answer)
     → answer ≢ replayed_answer compile blocks root_at query → IsExposeOutput compile root query root_at input blocks output
     → (proof : Proof) × IsProofInHex input proof × TellsClash (proof_texts proof) (replayed_texts compile blocks root_at) output.lines
+
+-- The input is this proof of ancestors in hex.
+abbrev pub IsTraceInHex : List ℕ → TraceProof → Type 0
+IsTraceInHex input proof =
+    (bytes : List ℕ) × (decode_of (hex_text input) ≡ Ok bytes) × SpellsTrace bytes proof
+
+-- The lines are those of the last version of the key up to the block, with its ancestors, of
+-- replaying the blocks of any chain that has the root, up to the block at which it has it; or a text
+-- of the proof and one of that chain's ledger differ and have one digest.
+abbrev pub TellsReplayedTraces : List ℕ → List ℕ → ℕ → TraceProof → List Line → Type 0
+TellsReplayedTraces root key at proof lines =
+    (compile : Compiler) (blocks : List Block) (block : ℕ) → HasRoot compile blocks block root
+    → (lines ≡ map plain (trace_lines (replayed_trace compile blocks block key at)))
+    ⊎ TraceClashesWithReplay compile blocks block proof
+
+-- If `trace verify` ends well, the input is a proof of ancestors, and what it prints are those of
+-- every chain with the root, or there is a clash.
+abbrev pub VerifiedTracesHold : List ℕ → List ℕ → ℕ → List ℕ → Type 0
+VerifiedTracesHold root key at input =
+    (output : Output) → IsVerifyTraceOutput root key at input output
+    → output.status ≡ statuses.Done
+    → (proof : TraceProof) × IsTraceInHex input proof
+    × TellsReplayedTraces root key at proof output.lines

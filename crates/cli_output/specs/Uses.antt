@@ -4,6 +4,7 @@ use Rattle.std.specs.Prelude.{Bool, true, false, ◌||◌, Option, Some, None}
 use Rattle.cli_words.specs.declared.words.Command.{Command}
 use Rattle.cli_words.specs.declared.words.Command.TheVariants.{Scan, Fmt, Pack, Gen, Load, Append, Upgrade}
 use Rattle.cli_words.specs.declared.words.Command.TheVariants.{Root, Ask, Prove, Verify, Expose}
+use Rattle.cli_words.specs.declared.words.Command.TheVariants.{Trace, ProveTrace, VerifyTrace}
 
 -- What is read of the input: nothing; frames of blocks; all of it, as a text; or all of it, as a
 -- proof that is checked.
@@ -51,6 +52,11 @@ use_of (Some (Ask kind key at)) = record { input = Unread; chain = LogRows; prin
 use_of (Some (Prove query root_at)) = record { input = Unread; chain = LogLineage; print = AtEnd }
 use_of (Some (Verify root query)) = record { input = ProofText; chain = NoChain; print = AtEnd }
 use_of (Some (Expose root query root_at)) = record { input = ProofText; chain = LogLineage; print = AtEnd }
+use_of (Some (Trace key at)) = record { input = Unread; chain = LogLineage; print = AtEnd }
+use_of (Some (ProveTrace key at root_at)) = record
+    { input = Unread; chain = LogLineage; print = AtEnd }
+use_of (Some (VerifyTrace root key at)) = record
+    { input = ProofText; chain = NoChain; print = AtEnd }
 
 -- ---- what follows from it
 

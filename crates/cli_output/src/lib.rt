@@ -9,7 +9,9 @@ mod stop;
 mod telling;
 
 pub use asking::beyond;
-pub use cli_append::{Ending, Node, Outcome, RunStop, answer_lines, hex_after, read_whole};
+pub use cli_append::{
+    Ending, Node, Outcome, RunStop, answer_lines, hex_after, read_whole, trace_lines,
+};
 pub use loads::load_line;
 pub use starting::start_outcome;
 pub use stop::{OutcomeStop, status_of_stop};

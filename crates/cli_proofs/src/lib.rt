@@ -8,5 +8,5 @@ mod verifying;
 
 pub use answer_proof::Lineage;
 pub use exposing::expose;
-pub use proving::prove;
-pub use verifying::verify;
+pub use proving::{hex_line, prove};
+pub use verifying::{bad_hex, verify};

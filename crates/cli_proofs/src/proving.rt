@@ -20,7 +20,7 @@ use scratch_model::Scratch;
 use std::alloc::Global;
 
 /// The line of bytes in lower-case hex.
-fn hex_line(alloc: Global, bytes: &[u8]) -> Result<Bytes, Memory>
+pub fn hex_line(alloc: Global, bytes: &[u8]) -> Result<Bytes, Memory>
     ensures { IfOk result (λ told. told ≡ line (encode_lower bytes.now)) }
 {
     line_of(hex::encode(alloc, bytes)?)

@@ -27,7 +27,7 @@ pub(crate) fn rejected_outcome(alloc: Global, reject: &Reject) -> Result<Outcome
 }
 
 /// The outcome for an input that is no hex.
-pub(crate) fn bad_hex(alloc: Global, fault: &HexFault) -> Result<Outcome, Memory>
+pub fn bad_hex(alloc: Global, fault: &HexFault) -> Result<Outcome, Memory>
     ensures { IfOk result (λ outcome. outcome ≡ bad_input (hex_cause fault.now)) }
 {
     match fault {

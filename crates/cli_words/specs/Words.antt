@@ -14,6 +14,7 @@ use Rattle.cli_words.specs.declared.words.BlockVersion.TheVariants as versions
 use Rattle.cli_words.specs.declared.words.Generation.{Generation}
 use Rattle.cli_words.specs.declared.words.Command.{Command}
 use Rattle.cli_words.specs.declared.words.Command.TheVariants.{Scan, Fmt, Pack, Gen, Load, Append, Upgrade, Root, Ask, Prove, Verify, Expose}
+use Rattle.cli_words.specs.declared.words.Command.TheVariants.{Trace, ProveTrace, VerifyTrace}
 
 -- The word for a kind of question.
 abbrev pub kind_word : Kind → List ℕ
@@ -87,6 +88,23 @@ verify_words root query = codes "verify" ∷ encode_lower root.0 ∷ query_words
 abbrev pub expose_words : Digest → Query → ℕ → List (List ℕ)
 expose_words root query root_at = codes "expose" ∷ encode_lower root.0 ∷ kind_word query.kind ∷ query.key ∷ decimal query.at ∷ decimal root_at ∷ []
 
+-- The words of the command for the ancestors of a version: trace KEY BLOCK, BLOCK in decimal digits
+-- without a leading zero.
+abbrev pub trace_words : List ℕ → ℕ → List (List ℕ)
+trace_words key at = codes "trace" ∷ key ∷ decimal at ∷ []
+
+-- The words of the command for a proof of them: trace prove KEY BLOCK ROOTBLOCK, both numbers in
+-- decimal digits without a leading zero.
+abbrev pub prove_trace_words : List ℕ → ℕ → ℕ → List (List ℕ)
+prove_trace_words key at root_at =
+    codes "trace" ∷ codes "prove" ∷ key ∷ decimal at ∷ decimal root_at ∷ []
+
+-- The words of the command that verifies such a proof: trace verify ROOT KEY BLOCK, ROOT in
+-- lower-case hex, BLOCK in decimal digits without a leading zero.
+abbrev pub verify_trace_words : Digest → List ℕ → ℕ → List (List ℕ)
+verify_trace_words root key at =
+    codes "trace" ∷ codes "verify" ∷ encode_lower root.0 ∷ key ∷ decimal at ∷ []
+
 -- A root that words can spell: 32 bytes.
 pub record IsRootGiven (root : Digest) : Type 0 where
   pub length_is : length root.0 ≡ 32
@@ -111,6 +129,9 @@ command_words (Ask kind key at) = ask_words kind key at
 command_words (Prove query root_at) = prove_words query root_at
 command_words (Verify root query) = verify_words root query
 command_words (Expose root query root_at) = expose_words root query root_at
+command_words (Trace key at) = trace_words key at
+command_words (ProveTrace key at root_at) = prove_trace_words key at root_at
+command_words (VerifyTrace root key at) = verify_trace_words root key at
 
 -- A command that words can spell: its keys are keys, its numbers have 32 bits, its roots have 32
 -- bytes, and a generation makes a number of blocks that may be made at once.
@@ -127,6 +148,9 @@ CanBeGiven (Ask kind key at) = IsKey key × Fits at
 CanBeGiven (Prove query root_at) = IsQuery query × (root_at < 2 ^ 32)
 CanBeGiven (Verify root query) = IsRootGiven root × IsQuery query
 CanBeGiven (Expose root query root_at) = IsRootGiven root × IsQuery query × (root_at < 2 ^ 32)
+CanBeGiven (Trace key at) = IsKey key × (at < 2 ^ 32)
+CanBeGiven (ProveTrace key at root_at) = IsKey key × (at < 2 ^ 32) × (root_at < 2 ^ 32)
+CanBeGiven (VerifyTrace root key at) = IsRootGiven root × IsKey key × (at < 2 ^ 32)
 
 -- The command that the words are, or None if no command has these words.
 abbrev pub IsCommand : List (List ℕ) → Option Command → Type 0
@@ -190,6 +214,24 @@ IsVerify words None = (root : Digest) (query : Query) → IsRootGiven root → I
 abbrev pub IsExpose : List (List ℕ) → Option Command → Type 0
 IsExpose words (Some command) = CanBeGiven command × (words ≡ command_words command)
 IsExpose words None = (root : Digest) (query : Query) (root_at : ℕ) → IsRootGiven root → IsQuery query → root_at < 2 ^ 32 → words ≡ expose_words root query root_at → ⊥
+
+-- The command for the ancestors of a version; None if the words are not those of one.
+abbrev pub IsTrace : List (List ℕ) → Option Command → Type 0
+IsTrace words (Some command) = CanBeGiven command × (words ≡ command_words command)
+IsTrace words None =
+    (key : List ℕ) (at : ℕ) → IsKey key → at < 2 ^ 32 → words ≡ trace_words key at → ⊥
+
+-- The command for a proof of them; None if the words are not those of one.
+abbrev pub IsProveTrace : List (List ℕ) → Option Command → Type 0
+IsProveTrace words (Some command) = CanBeGiven command × (words ≡ command_words command)
+IsProveTrace words None = (key : List ℕ) (at root_at : ℕ) → IsKey key → at < 2 ^ 32
+    → root_at < 2 ^ 32 → words ≡ prove_trace_words key at root_at → ⊥
+
+-- The command that verifies such a proof; None if the words are not those of one.
+abbrev pub IsVerifyTrace : List (List ℕ) → Option Command → Type 0
+IsVerifyTrace words (Some command) = CanBeGiven command × (words ≡ command_words command)
+IsVerifyTrace words None = (root : Digest) (key : List ℕ) (at : ℕ) → IsRootGiven root → IsKey key
+    → at < 2 ^ 32 → words ≡ verify_trace_words root key at → ⊥
 
 -- Whether this is the only word.
 abbrev pub IsAlone : List ℕ → List (List ℕ) → Bool → Type 0

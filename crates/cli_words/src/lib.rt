@@ -6,6 +6,7 @@ mod packing;
 mod proving;
 mod questions;
 mod single;
+mod tracing;
 mod words;
 
 pub use words::{BlockVersion, Command, Edition, Generation, MAX_GENERATED_BLOCKS, command_of};

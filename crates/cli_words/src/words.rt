@@ -8,6 +8,7 @@ use crate::packing::pack_of;
 use crate::proving::{expose_of, prove_of, verify_of};
 use crate::questions::{ask_of, root_of, scan_of};
 use crate::single::{count_of, is_text, number_of};
+use crate::tracing::{prove_trace_of, trace_of, verify_trace_of};
 use lc_base::{Digest, Key, Kind, Query};
 
 /// The greatest number of blocks that `gen` and `load` make.
@@ -88,6 +89,25 @@ pub enum Command {
         query: Query,
         root_at: u32,
     },
+    /// `trace KEY BLOCK`: print all ancestors of the last version of a key up to a block of the log.
+    Trace {
+        key: Key,
+        at: u32,
+    },
+    /// `trace prove KEY BLOCK ROOTBLOCK`: print a proof of them, for one who has the root at
+    /// ROOTBLOCK.
+    ProveTrace {
+        key: Key,
+        at: u32,
+        root_at: u32,
+    },
+    /// `trace verify ROOT KEY BLOCK`: check the proof that the input is, in hex, and print the
+    /// ancestors that it shows.
+    VerifyTrace {
+        root: Digest,
+        key: Key,
+        at: u32,
+    },
 }
 
 /// The blocks of the words `WORD N SEED`; `None` exactly if the words are not of this form.
@@ -163,6 +183,15 @@ fn parse_command(words: &[String]) -> Option<Command>
         return Some(command);
     }
     if let Some(command) = expose_of(words) {
+        return Some(command);
+    }
+    if let Some(command) = trace_of(words) {
+        return Some(command);
+    }
+    if let Some(command) = prove_trace_of(words) {
+        return Some(command);
+    }
+    if let Some(command) = verify_trace_of(words) {
         return Some(command);
     }
     match root_of(words) {

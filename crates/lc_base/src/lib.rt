@@ -20,7 +20,9 @@ pub use host::Host;
 pub use host_error::HostError;
 pub use lc_names::{Key, KeyError, MAX_KEY_BYTES, MAX_NAME_BYTES, Name, is_name_byte};
 pub use limits::{MAX_DEPS, MAX_JOINED_BYTES, MAX_ROWS, MAX_TEXT_BYTES};
-pub use list::{Bytes, DepList, DigestList, Duplicate, KeyList, RowList, Seq, TextList, ValueList};
+pub use list::{
+    Bytes, DepList, DigestList, Duplicate, KeyList, RowList, Seq, TextList, ValueList, VersionList,
+};
 pub use memory::{Memory, zeros};
 pub use row::{Dep, Row, Version};
 pub use text::{Text, TextError, bad_text_byte, is_text_byte};

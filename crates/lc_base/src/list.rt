@@ -7,7 +7,7 @@ ghost use Rattle.std.specs.{
 
 use crate::digest::Digest;
 use crate::memory::Memory;
-use crate::row::{Dep, Row};
+use crate::row::{Dep, Row, Version};
 use crate::value::Value;
 use lc_names::Key;
 use std::alloc::Global;
@@ -42,6 +42,8 @@ pub type KeyList = Seq<Key>;
 pub type DepList = Seq<Dep>;
 /// A list of rows.
 pub type RowList = Seq<Row>;
+/// A list of versions.
+pub type VersionList = Seq<Version>;
 /// A list of values.
 pub type ValueList = Seq<Value>;
 /// A list of digests.

@@ -50,3 +50,14 @@ impl Duplicate for Row {
         })
     }
 }
+
+impl Duplicate for Version {
+    fn copy(&self, alloc: Global) -> Result<Version, Memory> {
+        let value = self.value.copy(alloc)?;
+        Ok(Version {
+            block: self.block,
+            tx: self.tx,
+            value,
+        })
+    }
+}

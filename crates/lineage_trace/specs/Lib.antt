@@ -1,4 +1,3 @@
-pub mod Wanted
 pub mod Finding
 pub mod Counting
 pub mod Tracing

@@ -18,7 +18,7 @@ pub(crate) struct Wanted {
 impl Model for Wanted {
     ghost use Rattle.std.specs.Prelude.{List, map};
     ghost use Rattle.lc_base.specs.declared.row.Dep.{Dep as Version};
-    ghost use Rattle.lineage_trace.specs.Wanted.{version_at};
+    ghost use Rattle.row_ancestors.specs.Places.{version_at};
 
     ghost Value = { List Version };
 

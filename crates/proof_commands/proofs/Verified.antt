@@ -60,7 +60,7 @@ one_first text a b is_a is_b =
     ]
 
 -- A text of even length that doesn't decode has a first byte that isn't a hex digit.
-found_first : (text : List ℕ) (error : FromHexError) → decode_of text ≡ Err error → length text % 2 ≡ 0 → (at : ℕ) × IsFirstNoDigit text at × (error ≡ InvalidHexCharacter (slice_index text at) at)
+pub found_first : (text : List ℕ) (error : FromHexError) → decode_of text ≡ Err error → length text % 2 ≡ 0 → (at : ℕ) × IsFirstNoDigit text at × (error ≡ InvalidHexCharacter (slice_index text at) at)
 found_first text error decoded even =
     elim (decode_of-err text error decoded) [
       | inl odd ↦ absurd (let one = odd.0 in omega (arith, even, one))
@@ -73,7 +73,7 @@ found_first text error decoded even =
 abbrev refused : FromHexError → Result (List ℕ) FromHexError
 refused error = Err error
 
-first_decoded : (text : List ℕ) (at : ℕ) → IsFirstNoDigit text at → (r : Result (List ℕ) FromHexError) → decode_of text ≡ r → r ≡ Err (InvalidHexCharacter (slice_index text at) at)
+pub first_decoded : (text : List ℕ) (at : ℕ) → IsFirstNoDigit text at → (r : Result (List ℕ) FromHexError) → decode_of text ≡ r → r ≡ Err (InvalidHexCharacter (slice_index text at) at)
 first_decoded text at is (Ok bytes) decoded =
     let digit : is_hex_digit (slice_index text at) ≡ true = (decode_of-ok text bytes decoded).1 at 0 is.within in
     let no = is.no_digit in

@@ -6,7 +6,7 @@ mod lines;
 mod verification;
 mod verifying;
 
-pub use lines::rejected_line;
+pub use lines::{reject_text, rejected_line};
 pub use proof_verifier::accept;
 pub use verification::{HexFault, Verification};
 pub use verifying::{decode_hex, verify_hex};

@@ -16,8 +16,8 @@ fn link_text(alloc: Global, step: u32, computed: &Digest) -> Result<String, Allo
     digest_text(alloc, word.as_str(), computed)
 }
 
-/// The words for the check that failed.
-fn reject_text(alloc: Global, reject: &Reject) -> Result<String, AllocError>
+/// The words for the check of a proof that failed, without a line end.
+pub fn reject_text(alloc: Global, reject: &Reject) -> Result<String, AllocError>
     ensures { IfOk result (λ text. string_bytes text ≡ reject_text reject.now) }
 {
     match reject {

@@ -60,9 +60,10 @@ fn next_link(links: &LinkView, at: u32) -> Option<Link>
     best
 }
 
-/// The lookup of the latest version of a key up to a block.
+/// The lookup of the latest version of a key up to a block: from a header of a later block, the
+/// highest link to a later block leads on, or else the lowest link.
 #[derive(Clone, Copy, Debug)]
-pub(crate) struct Lookup {
+pub struct Lookup {
     /// The block.
     pub at: u32,
 }

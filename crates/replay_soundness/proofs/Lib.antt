@@ -2,6 +2,7 @@ pub mod Longer
 pub mod Logs
 pub mod Inputs
 pub mod Sound
+pub mod Traced
 pub mod Values
 pub mod Keeping
 pub mod Reading

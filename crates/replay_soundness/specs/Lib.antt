@@ -1,5 +1,6 @@
 pub mod Chains
 pub mod Soundness
+pub mod Traces
 pub mod Literals
 pub mod TypedChains
 pub mod TypedLaws

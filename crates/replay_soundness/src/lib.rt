@@ -5,6 +5,7 @@
 mod chains;
 mod refuted;
 mod soundness;
+mod traces;
 mod typed_laws;
 
 pub use chains::{inputs_add_to_chains, inputs_add_to_logs, inputs_hold_chains, logs_hold_chains};
@@ -13,6 +14,7 @@ pub use soundness::{
     accepted_answers_agree, accepted_proofs_answer_as_logs, accepted_proofs_answer_as_replays,
     chains_with_one_root_answer_alike, nothing_and_something_clash, wrong_answers_are_exposed,
 };
+pub use traces::accepted_traces_are_of_replays;
 pub use typed_laws::{
     blocks_add_typed_rows, calls_write_typed_rows, chains_of_values_are_typed,
     compilers_give_values, replays_are_typed,

@@ -1,4 +1,5 @@
 pub mod Order
+pub mod Places
 pub mod Inserting
 pub mod Versions
 pub mod Enough

@@ -1,4 +1,5 @@
 pub mod Ancestors
+pub mod Places
 pub mod Laws
 pub mod Steps
 pub mod Examples

@@ -41,7 +41,7 @@ all_taken bytes trace fits (Ok read) e got =
 all_taken bytes trace fits (Err left) e got = absurd cc
 
 -- What is read is spelled by the bytes.
-is_spelled : (bytes : List ℕ) (trace : TraceProof) → IsBytes bytes → trace_in bytes ≡ Ok trace
+pub is_spelled : (bytes : List ℕ) (trace : TraceProof) → IsBytes bytes → trace_in bytes ≡ Ok trace
     → SpellsTrace bytes trace
 unfolding trace_in
 is_spelled bytes trace fits e = all_taken bytes trace fits (trace_proof_at bytes) refl e

@@ -1,4 +1,4 @@
-use Rattle.std.proofs.Common.{Some, ap, sym, refl, ◌∙◌}
+use Rattle.std.proofs.Common.{Some, ap, sym, ◌∙◌}
 use Rattle.scratch_model.specs.Scratch.{is_known}
 use Rattle.cli_words.specs.declared.words.Command.TheVariants.{Append, Upgrade}
 use Rattle.block_log.specs.Log.{next_in_log}

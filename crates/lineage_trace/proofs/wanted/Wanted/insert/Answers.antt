@@ -1,7 +1,7 @@
 use Rattle.std.proofs.Common.{◌∙◌, map, ap}
 use Rattle.row_ancestors.specs.Ancestors.{inserted, itself}
-use Rattle.lineage_trace.specs.Wanted.{version_at}
-use Rattle.lineage_trace.proofs.Places.{Place, put_in}
+use Rattle.row_ancestors.specs.Places.{Place, version_at}
+use Rattle.lineage_trace.proofs.Places.{put_in}
 use Rattle.lineage_trace.proofs.wanted.Wanted.insert.Goals as goal
 
 pub returns : goal.returns

@@ -1,7 +1,8 @@
 use Rattle.std.proofs.Common.{◌∙◌, ap}
 use Rattle.std.specs.List.{list_any}
 use Rattle.trace_checks.specs.Checks.{has_other_digest}
-use Rattle.trace_wanted.proofs.Placed.{Place, differs, found_other}
+use Rattle.trace_checks.specs.row_ancestors.Places.{Place}
+use Rattle.trace_wanted.proofs.Placed.{differs, found_other}
 use Rattle.trace_wanted.proofs.wanted.Wanted.has_other_digest.Goals as goal
 
 pub returns-in-None : goal.returns-in-None

@@ -3,8 +3,9 @@ use Rattle.std.specs.List.{list_any}
 use Rattle.trace_checks.specs.proof_checks.Checks.{dep_of}
 use Rattle.trace_checks.specs.row_ancestors.Ancestors.{inserted}
 use Rattle.trace_checks.specs.Checks.{has_other_digest}
+use Rattle.trace_checks.specs.row_ancestors.Places.{Place}
 use Rattle.trace_wanted.specs.Places.{dep_at}
-use Rattle.trace_wanted.proofs.Placed.{Place, put_in}
+use Rattle.trace_wanted.proofs.Placed.{put_in}
 use Rattle.trace_wanted.proofs.wanted.Wanted.put.Goals as goal
 
 pub returns-clause-ok : goal.returns-clause-ok
