@@ -1,0 +1,4 @@
+pub mod Links
+pub mod Walking
+pub mod Counts
+pub mod Told

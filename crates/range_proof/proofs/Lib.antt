@@ -1,0 +1,4 @@
+pub mod Found
+pub mod Written
+pub mod Leafed
+pub mod Made

@@ -1,0 +1,10 @@
+use Rattle.std.proofs.Common.{◌≡◌, filter, length}
+use Rattle.range_checks.specs.Checks.{is_within}
+use Rattle.range_verifier.proofs.shown.next_within.Given as goal
+
+abbrev pub invariant-loop-header : goal.invariant-loop-header
+invariant-loop-header l =
+    filter (is_within l.from l.to) l.headers ≡ filter (is_within l.from l.to) l.fn.headers
+
+abbrev pub decreases-loop-header : goal.decreases-loop-header
+decreases-loop-header l = length l.headers

@@ -1,0 +1,10 @@
+-- Which fault an error reports.
+use Rattle.std.specs.Prelude.{Option, Some, None}
+use Rattle.range_checks.specs.declared.reject.RangeReject.{RangeReject}
+use Rattle.range_verifier.specs.declared.error.RangeError.{RangeError}
+use Rattle.range_verifier.specs.declared.error.RangeError.TheVariants.{Rejected, Memory}
+
+-- The fault, or `None` if memory ran out.
+abbrev pub fault_told : RangeError → Option RangeReject
+fault_told (Rejected fault) = Some fault
+fault_told Memory = None
