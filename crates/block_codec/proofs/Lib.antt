@@ -1,4 +1,3 @@
-pub mod Filling
 pub mod Written
 pub mod Txs
 pub mod Blocks

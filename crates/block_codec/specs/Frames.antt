@@ -1,7 +1,6 @@
 -- Frames: how a block file is split into the bytes of its blocks.
-use Rattle.std.specs.Prelude.{◌≡◌, ℕ, ◌+◌, ◌<◌, ◌≤◌, ◌==◌, nat_lt, ◌||◌, if◌then◌else◌, List, [], length, take, drop, Option, Some, None, Result, Ok, Err}
+use Rattle.std.specs.Prelude.{◌≡◌, ℕ, ◌+◌, ◌≤◌, ◌==◌, nat_lt, ◌||◌, if◌then◌else◌, List, [], length, take, drop, Option, Some, None, Result, Ok, Err}
 use Rattle.std.specs.Int.{w32, from_be_bytes}
-use Rattle.lc_io.specs.Outside.{prepend, IsAtEnd}
 use Rattle.block_codec.specs.declared.limits.TheConstants.{MAX_BLOCK_BYTES, MAX_FRAMES}
 use Rattle.block_codec.specs.declared.error.FrameError.{FrameError}
 use Rattle.block_codec.specs.declared.error.FrameError.TheVariants as errors
@@ -61,11 +60,3 @@ IsBody step (Err errors.Truncated) left = (step ≡ Truncated) × (left ≡ Some
 IsBody step (Err errors.Fault) left = Unit {0}
 IsBody step (Err errors.Memory) left = Unit {0}
 IsBody step (Err error) left = ⊥
-
--- ---- filling a buffer from a source
-
--- A buffer filled as far as the source reaches: it is short of its room only at the end of the
--- source. After a failure the source still has all that was not taken.
-abbrev pub Fills : {E : Type 0} → Option (List ℕ) → Option (List ℕ) → Result ℕ E → List ℕ → Type 0
-Fills old new (Ok n) buffer = (old ≡ prepend (take n buffer) new) × (n < length buffer → IsAtEnd new)
-Fills old new (Err e) buffer = (taken : List ℕ) × (old ≡ prepend taken new)

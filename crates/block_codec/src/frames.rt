@@ -1,16 +1,16 @@
 //! The frames of a block file: each is a length of four bytes, then that many bytes.
 
-ghost use Rattle.std.specs.Prelude.{◌≡◌, ◌≤◌, length, IfOk, IfSome, IsErr, IsErrOf};
+ghost use Rattle.std.specs.Prelude.{◌≡◌, ◌≤◌, IfSome, IsErrOf};
 ghost use Rattle.lc_base.specs.Faults.{HasCause};
 ghost use Rattle.block_codec.specs.{
-  Frames.{Fills, frame_of, IsBody, IsFrameAnswer, CountsFrame},
+  Frames.{frame_of, IsBody, IsFrameAnswer, CountsFrame},
   declared.limits.TheConstants.{MAX_FRAMES},
 };
 
 use crate::error::FrameError;
 use crate::limits::{MAX_BLOCK_BYTES, MAX_FRAMES};
 use lc_base::{Bytes, zeros};
-use lc_io::{Failed, Source};
+use lc_io::{Source, fill};
 use std::alloc::Global;
 use std::marker::Model;
 
@@ -29,23 +29,6 @@ impl Model for Frames {
     ghost view = { λ frames. frames.taken };
 
     ghost invariant = { λ frames. frames.taken ≤ MAX_FRAMES };
-}
-
-/// Fills the buffer as far as the source reaches, and returns how many bytes came.
-fn fill<I: Source>(source: &mut I, buffer: &mut [u8]) -> Result<usize, Failed>
-    ensures bound { IfOk result (λ n. n ≤ length buffer.new) }
-    ensures bytes { Fills (I.left source.old) (I.left source.new) result buffer.new }
-    ensures cause { HasCause (I.source_faults source.old) (I.source_faults source.new) (IsErr result) }
-{
-    let mut start = 0;
-    while start < buffer.len() {
-        let count = source.pull(&mut buffer[start..])?;
-        if count == 0 {
-            return Ok(start);
-        }
-        start += count;
-    }
-    Ok(start)
 }
 
 /// The next `count` bytes of the source, or `Truncated` if it has fewer.

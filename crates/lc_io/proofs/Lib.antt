@@ -1,4 +1,5 @@
 pub mod Pieces
 pub mod Pulling
+pub mod Filled
 pub mod Telling
 pub mod Writing

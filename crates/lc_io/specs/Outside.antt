@@ -1,5 +1,5 @@
 -- What the outside takes and returns, and when it may fail.
-use Rattle.std.specs.Prelude.{◌≡◌, ℕ, List, [], ◌∷◌, ◌++◌, take, map, Option, Some, None, Result, Ok, Err, ◌⊎◌}
+use Rattle.std.specs.Prelude.{◌≡◌, ℕ, ◌<◌, List, [], ◌∷◌, ◌++◌, length, take, map, Option, Some, None, Result, Ok, Err, ◌⊎◌}
 use Rattle.std.specs.List.{concat}
 
 -- ---- what a source has left, if it is known
@@ -19,6 +19,12 @@ IsAtEnd (Some left) = left ≡ []
 abbrev pub Pulls : {E : Type 0} → Option (List ℕ) → Option (List ℕ) → Result ℕ E → List ℕ → Type 0
 Pulls old new (Ok n) buffer = (old ≡ prepend (take n buffer) new) × (n ≡ 0 → IsAtEnd old)
 Pulls old new (Err e) buffer = new ≡ old
+
+-- A buffer filled as far as the source reaches: it is short of its room only at the end of the
+-- source. After a failure the source still has all that was not taken.
+abbrev pub Fills : {E : Type 0} → Option (List ℕ) → Option (List ℕ) → Result ℕ E → List ℕ → Type 0
+Fills old new (Ok n) buffer = (old ≡ prepend (take n buffer) new) × (n < length buffer → IsAtEnd new)
+Fills old new (Err e) buffer = (taken : List ℕ) × (old ≡ prepend taken new)
 
 -- ---- what was printed, if it is known
 

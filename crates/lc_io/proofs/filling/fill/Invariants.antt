@@ -1,6 +1,6 @@
 use Rattle.std.proofs.Common.{◌-◌, length}
-use Rattle.block_codec.proofs.Filling.{IsFilled}
-use Rattle.block_codec.proofs.frames.fill.Given as goal
+use Rattle.lc_io.proofs.Filled.{IsFilled}
+use Rattle.lc_io.proofs.filling.fill.Given as goal
 
 abbrev pub invariant-loop-start : goal.invariant-loop-start
 invariant-loop-start g l =

@@ -1,5 +1,5 @@
-use Rattle.block_codec.proofs.Filling.{fills_more}
-use Rattle.block_codec.proofs.frames.fill.Goals as goal
+use Rattle.lc_io.proofs.Filled.{fills_more}
+use Rattle.lc_io.proofs.filling.fill.Goals as goal
 
 pub loop-start-preserved : goal.loop-start-preserved
 loop-start-preserved g c =
