@@ -3,6 +3,7 @@
 
     verify.py ROOT KIND KEY BLOCK < PROOF     checks a proof
     verify.py trace ROOT KEY BLOCK < PROOF    checks a proof of all ancestors
+    verify.py range ROOT KEY FROM TO < PROOF  checks a proof of all versions between two blocks
     verify.py --show < PROOF                  shows what a proof holds, and checks nothing of it
     verify.py --help                          prints this
 
@@ -29,6 +30,9 @@ DIGEST_BYTES = 32
 
 MAGIC = b"LCP1"
 TRACE_MAGIC = b"LCT1"
+RANGE_MAGIC = b"LCR1"
+# What a proof is of.
+OF_ANSWER, OF_TRACE, OF_RANGE = range(3)
 KINDS = ["hist", "back", "fwd"]
 HIST, BACK, FWD = range(3)
 INT, TEXT, GONE = range(3)
@@ -72,6 +76,14 @@ class Question(NamedTuple):
     kind: int
     key: bytes
     block: int
+
+
+class Period(NamedTuple):
+    """What a proof of a range is of: a key, and the first and the last block."""
+
+    key: bytes
+    first: int
+    last: int
 
 
 class Named(NamedTuple):
@@ -158,6 +170,25 @@ class Trace(NamedTuple):
     items: list
 
 
+class Range(NamedTuple):
+    """A proof of all versions of a key between two blocks: the headers from the newest version on, and the bodies of
+    those that are between the blocks."""
+
+    question: Period
+    root_block: int
+    block_digest: bytes
+    leaf_count: int
+    leaf_index: int
+    leaf: Leaf
+    audit: list
+    headers: list
+    bodies: list
+
+    def between(self):
+        """The headers of the versions between the blocks."""
+        return [header for header in self.headers if self.question.first <= header.block <= self.question.last]
+
+
 # ---- reading
 
 
@@ -241,23 +272,30 @@ class Fields:
         deps = [self.dependency() for _ in range(self.number(1, 0, MAX_DEPS))]
         return Body(self.proof[start : self.offset], value, deps)
 
-    def whole_proof(self):
-        self.take(len(MAGIC), lambda field: field == MAGIC)
-        question = Question(self.number(1, HIST, FWD), self.key(), self.number(4))
-        root_block, block_digest = self.number(4, least=question.block), self.digest()
+    def magic(self, magic):
+        self.take(len(magic), lambda field: field == magic)
+
+    def leaf_place(self, least):
+        """The root block, which is at least this one, and a leaf of its tree with its place there."""
+        root_block, block_digest = self.number(4, least=least), self.digest()
         leaf_count = self.number(4, least=1)
         leaf_index = self.number(4, most=leaf_count - 1)
         leaf = self.leaf(leaf_index)
         steps = audit_length(leaf_index, leaf_count)
         audit = [self.digest() for _ in range(self.number(1, steps, steps))]
+        return root_block, block_digest, leaf_count, leaf_index, leaf, audit
+
+    def whole_proof(self):
+        self.magic(MAGIC)
+        question = Question(self.number(1, HIST, FWD), self.key(), self.number(4))
+        place = self.leaf_place(least=question.block)
         headers = [self.header() for _ in range(self.number(1))]
         has_body = bool(headers) and headers[-1].block <= question.block
         body = self.body() if has_body else None
         has_uses = has_body and question.kind == FWD
         uses = [self.place() for _ in range(self.number(4))] if has_uses else None
         self.end()
-        place = root_block, block_digest, leaf_count, leaf_index
-        return Proof(question, *place, leaf, audit, headers, body, uses)
+        return Proof(question, *place, headers, body, uses)
 
     def start(self):
         """The proof within a proof of all ancestors, behind the number of its bytes."""
@@ -266,11 +304,22 @@ class Fields:
         return Fields(self.take(size), first).whole_proof()
 
     def whole_trace(self):
-        self.take(len(TRACE_MAGIC), lambda field: field == TRACE_MAGIC)
+        self.magic(TRACE_MAGIC)
         start = self.start()
         items = [Item(self.header(), self.body()) for _ in range(self.number(4, most=MAX_ITEMS))]
         self.end()
         return Trace(start, items)
+
+    def whole_range(self):
+        self.magic(RANGE_MAGIC)
+        key, first = self.key(), self.number(4)
+        period = Period(key, first, self.number(4, least=first))
+        place = self.leaf_place(least=period.last)
+        headers = [self.header() for _ in range(self.number(4))]
+        proof = Range(period, *place, headers, [])
+        bodies = [self.body() for _ in proof.between()]
+        self.end()
+        return proof._replace(bodies=bodies)
 
 
 # ---- the tree
@@ -323,11 +372,12 @@ def check_leaf(leaf, key):
         raise rejected("leaf")
 
 
-def next_version(header, question):
-    """The version that the next header must be of; none where this header is the last one."""
-    if header.block <= question.block or not header.links:
+def next_version(header, block):
+    """The version that the next header must be of, on the way to the last one up to a block; none where this header is
+    the last one."""
+    if header.block <= block or not header.links:
         return None
-    later = [link for link in header.links if link.block > question.block]
+    later = [link for link in header.links if link.block > block]
     return later[-1] if later else header.links[0]
 
 
@@ -339,14 +389,14 @@ def check_header(header, step, expected, question):
         raise rejected(f"path {step}")
 
 
-def check_path(headers, newest, question):
-    """The headers lead from the newest version to the one that is asked for."""
+def check_path(headers, newest, question, following):
+    """The headers lead from the newest version on, each to the one that is following."""
     expected = newest
     for step, header in enumerate(headers):
         if expected is None:
             raise rejected(f"path {step}")
         check_header(header, step, expected, question)
-        expected = next_version(header, question)
+        expected = following(header)
     if expected is not None:
         raise rejected(f"path {len(headers)}")
 
@@ -373,16 +423,22 @@ def check_uses(proof):
         raise rejected(f"list {digest.hex()}")
 
 
-def answer(proof, root, question):
-    """The lines of the answer that a proof proves."""
+def check_headers(proof, root, question, following):
+    """The proof is of the question and leads to the root, and its headers are those of the key that follow one
+    another, from its newest version on."""
     if proof.question != question:
         raise rejected("query")
     check_root(proof, root)
     check_leaf(proof.leaf, question.key)
     if proof.leaf.key == question.key:
-        check_path(proof.headers, proof.leaf.newest, question)
+        check_path(proof.headers, proof.leaf.newest, question, following)
     elif proof.headers:
         raise rejected("path 0")
+
+
+def answer(proof, root, question):
+    """The lines of the answer that a proof proves."""
+    check_headers(proof, root, question, lambda header: next_version(header, question.block))
     if proof.body is None:
         return ["none"]
     check_body(proof)
@@ -395,9 +451,13 @@ def told(proof):
     version = proof.headers[-1]
     kind = proof.question.kind
     if kind == HIST:
-        return [f"block {version.block} tx {version.tx} {proof.body.value}"]
+        return [version_told(version, proof.body)]
     word, places = ("deps", proof.body.places()) if kind == BACK else ("uses", proof.uses)
     return listed(version, word, places)
+
+
+def version_told(header, body):
+    return f"block {header.block} tx {header.tx} {body.value}"
 
 
 def listed(version, word, places):
@@ -468,11 +528,43 @@ def trace_answer(trace, root, question):
     return listed(trace.start.headers[-1], "ancestors", [item.place() for item in reversed(trace.items)])
 
 
+# ---- the checks of a range
+
+
+def next_in_range(header, period):
+    """The version that the next header must be of: on the way to the last block, or the one before this one where
+    both are between the blocks; none where this header is the last one."""
+    if header.block > period.last:
+        return next_version(header, period.last)
+    if header.block < period.first or not header.links or header.links[0].block < period.first:
+        return None
+    return header.links[0]
+
+
+def check_bodies(proof):
+    """Each version between the blocks has the body that its header names."""
+    for number, (header, body) in enumerate(zip(proof.between(), proof.bodies)):
+        digest = sha256(BODY, body.text)
+        if digest != header.body:
+            raise rejected(f"body {number} {digest.hex()}")
+
+
+def range_answer(proof, root, period):
+    """The lines of all versions between two blocks that a proof proves."""
+    check_headers(proof, root, period, lambda header: next_in_range(header, period))
+    check_bodies(proof)
+    versions = [version_told(*version) for version in zip(proof.between(), proof.bodies)]
+    return [f"versions {len(versions)}", *reversed(versions)]
+
+
 # ---- what a proof holds
 
 
 def question_text(question):
-    return f"{KINDS[question.kind]} {question.key.decode('ascii')} {question.block}"
+    key = question.key.decode("ascii")
+    if isinstance(question, Period):
+        return f"range {key} {question.first} {question.last}"
+    return f"{KINDS[question.kind]} {key} {question.block}"
 
 
 def header_lines(header):
@@ -487,7 +579,7 @@ def body_lines(body):
     return lines + [f"  {dep.key.decode('ascii')} {dep.block}" for dep in body.deps]
 
 
-def proof_lines(proof):
+def leaf_lines(proof):
     leaf, question = proof.leaf, question_text(proof.question)
     key = f"key {leaf.key.decode('ascii')}" if leaf.key else "before all keys"
     following = f"next key {leaf.next_key.decode('ascii')}" if leaf.next_key else "no next key"
@@ -498,12 +590,29 @@ def proof_lines(proof):
     lines += [f"audit hash {digest.hex()}" for digest in proof.audit]
     for header in proof.headers:
         lines += header_lines(header)
+    return lines
+
+
+def proof_lines(proof):
+    lines = leaf_lines(proof)
     if proof.body:
         lines += body_lines(proof.body)
     if proof.uses is not None:
         lines.append(f"uses: {len(proof.uses)} versions were derived from it")
         lines += [f"  {key.decode('ascii')} {block}" for key, block in proof.uses]
-    return [*lines, f"leads to the root {root_of(proof).hex()}"]
+    return [*lines, root_line(proof)]
+
+
+def root_line(proof):
+    return f"leads to the root {root_of(proof).hex()}"
+
+
+def range_lines(proof):
+    lines = leaf_lines(proof)
+    for header, body in zip(proof.between(), proof.bodies):
+        value, *deps = body_lines(body)
+        lines += [f"block {header.block} {value}", *deps]
+    return [*lines, root_line(proof)]
 
 
 def item_lines(number, item):
@@ -513,15 +622,18 @@ def item_lines(number, item):
 
 def shown(proof):
     """What a proof holds, line by line."""
-    if isinstance(proof, Trace):
-        start, question = proof.start, proof.start.question
+    if isinstance(proof, Range):
+        period = proof.question
+        words = f"range ROOT {period.key.decode('ascii')} {period.first} {period.last}"
+        lines = range_lines(proof)
+    elif isinstance(proof, Trace):
+        question = proof.start.question
         words = f"trace ROOT {question.key.decode('ascii')} {question.block}"
-    else:
-        start, words = proof, f"ROOT {question_text(proof.question)}"
-    lines = proof_lines(start)
-    if isinstance(proof, Trace):
+        lines = proof_lines(proof.start)
         for number, item in enumerate(proof.items, 1):
             lines += item_lines(number, item)
+    else:
+        words, lines = f"ROOT {question_text(proof.question)}", proof_lines(proof)
     return [*lines, f"nothing of this was checked: verify.py {words} does that"]
 
 
@@ -529,18 +641,29 @@ def shown(proof):
 
 
 def read_words(words):
-    """The root and the question that the words are, and whether they ask for all ancestors: the question is then
-    what the version was derived from."""
+    """What the words ask for: what a proof is of, the root, and the question, which is of all ancestors what the
+    version was derived from."""
     words = [os.fsencode(word) for word in words]
-    is_trace = words[:1] == [b"trace"]
-    if len(words) == 4:
+    if words[:1] == [b"range"] and len(words) == 5:
+        _, root, key, first, last = words
+        if are_formed(root, key, first, last) and int(first) <= int(last):
+            return OF_RANGE, bytes.fromhex(root.decode()), Period(key, int(first), int(last))
+    elif len(words) == 4:
+        is_trace = words[0] == b"trace"
         root, kind, key, block = [words[1], b"back", *words[2:]] if is_trace else words
         kinds = [name.encode() for name in KINDS]
-        patterns = (ROOT_WORD, root), (KEY_WORD, key), (NUMBER_WORD, block)
-        is_formed = kind in kinds and all(pattern.fullmatch(word) for pattern, word in patterns)
-        if is_formed and int(block) <= MAX_NUMBER:
-            return bytes.fromhex(root.decode()), Question(kinds.index(kind), key, int(block)), is_trace
+        if kind in kinds and are_formed(root, key, block):
+            question = Question(kinds.index(kind), key, int(block))
+            return OF_TRACE if is_trace else OF_ANSWER, bytes.fromhex(root.decode()), question
     raise Stop("usage", USAGE)
+
+
+def are_formed(root, key, *blocks):
+    """Whether the words are those of a root, a key and blocks."""
+    numbers = [(NUMBER_WORD, block) for block in blocks]
+    patterns = (ROOT_WORD, root), (KEY_WORD, key), *numbers
+    is_formed = all(pattern.fullmatch(word) for pattern, word in patterns)
+    return is_formed and all(int(block) <= MAX_NUMBER for block in blocks)
 
 
 def read_input():
@@ -568,13 +691,26 @@ def read_hex(source):
     return bytes.fromhex(digits.decode("ascii"))
 
 
-def read_proof(proof, is_trace):
+def read_proof(proof, of):
     fields = Fields(proof)
-    return fields.whole_trace() if is_trace else fields.whole_proof()
+    return [fields.whole_proof, fields.whole_trace, fields.whole_range][of]()
+
+
+def kind_of(proof):
+    """What the bytes are a proof of, by the first of them."""
+    of = {TRACE_MAGIC: OF_TRACE, RANGE_MAGIC: OF_RANGE}
+    return of.get(proof[: len(MAGIC)], OF_ANSWER)
+
+
+def own_question(proof):
+    """The question that a proof is of."""
+    return proof.start.question if isinstance(proof, Trace) else proof.question
 
 
 def proved(proof, root, question):
-    """The lines of the answer, or of all ancestors, that a proof proves."""
+    """The lines of the answer, of all ancestors or of a range that a proof proves."""
+    if isinstance(proof, Range):
+        return range_answer(proof, root, question)
     return trace_answer(proof, root, question) if isinstance(proof, Trace) else answer(proof, root, question)
 
 
@@ -585,10 +721,10 @@ def outcome(words):
     try:
         if words == ["--show"]:
             proof = read_hex(read_input())
-            return shown(read_proof(proof, proof.startswith(TRACE_MAGIC))), DONE
-        root, question, is_trace = read_words(words)
-        proof = read_proof(read_hex(read_input()), is_trace)
-        own = proof.start.question if is_trace else proof.question
+            return shown(read_proof(proof, kind_of(proof))), DONE
+        of, root, question = read_words(words)
+        proof = read_proof(read_hex(read_input()), of)
+        own = own_question(proof)
         if own != question:
             note(f"the proof is of another question: {question_text(own)}")
         return proved(proof, root, question), DONE

@@ -16,6 +16,7 @@ from cases.log_cases import (
     LogCase, frames_of, log_of, upgraded,
 )
 from cases.proof_cases import proof_of
+from cases.range_cases import range_proof_of
 from cases.root_cases import History, Row, block_digests, roots
 from cases.trace_cases import trace_proof_of
 
@@ -390,10 +391,18 @@ def made_trace(key, at):
     return trace_proof_of(History(ROWS), digest, key, at, HEAD_BLOCK).hex() + "\n"
 
 
+def made_range(key, first, last):
+    """The proof of all versions between two blocks with that root, in hex and a line end."""
+    digest = block_digests(FRAMES)[HEAD_BLOCK]
+    return range_proof_of(History(ROWS), digest, key, first, last, HEAD_BLOCK).hex() + "\n"
+
+
 USES = ["block 0 uses 1\n", "raw/b 2\n"]
 PROOF = made_proof("fwd", "raw/a", 0)
 ANCESTORS = ["block 2 ancestors 1\n", "raw/a 0\n"]
 TRACE_PROOF = made_trace("raw/b", 2)
+VERSIONS = ["versions 1\n", "block 2 tx 0 int 2\n"]
+RANGE_PROOF = made_range("raw/b", 0, 2)
 # Commands over the log of the three blocks, and the lines of each. They read nothing.
 QUESTIONS = {
     "hist raw/b": ["block 2 tx 0 int 2\n"],
@@ -405,8 +414,12 @@ QUESTIONS = {
     "trace raw/b 2": ANCESTORS,
     "trace raw/c 2": ["none\n"],
     f"trace prove raw/b 2 {HEAD_BLOCK}": [TRACE_PROOF],
+    "range raw/b 0 2": VERSIONS,
+    "range raw/b 0 1": ["versions 0\n"],
+    f"range prove raw/b 0 2 {HEAD_BLOCK}": [RANGE_PROOF],
 }
 TRACE_VERIFY = f"trace verify {ROOTS[HEAD_BLOCK]} raw/b 2"
+RANGE_VERIFY = f"range verify {ROOTS[HEAD_BLOCK]} raw/b 0 2"
 VERIFY = f"verify {ROOTS[HEAD_BLOCK]} fwd raw/a 0"
 EXPOSE = f"expose {ROOTS[HEAD_BLOCK]} fwd raw/a 0 {HEAD_BLOCK}"
 PIECE = 16
@@ -426,12 +439,13 @@ def failing_questions():
 
 
 def failing_proofs():
-    """`verify`, `expose` and `trace verify` with each of their pulls, their reads and their tells failing."""
+    """The commands that check a proof with each of their pulls, their reads and their tells failing."""
     opened = reads_of(LOG)
     for words, proof, image, lines, reads in [
         (VERIFY, PROOF, b"hello", USES, 0),
         (EXPOSE, PROOF, LOG, ["no clash\n"], opened),
         (TRACE_VERIFY, TRACE_PROOF, b"hello", ANCESTORS, 0),
+        (RANGE_VERIFY, RANGE_PROOF, b"hello", VERSIONS, 0),
     ]:
         source = proof.encode("ascii")
         size = len(source)

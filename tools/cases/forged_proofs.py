@@ -25,13 +25,15 @@ ROWS = [
     Row(LATE, HEAD, 2, 30, []),
 ]
 FORGED = 99
+# What stands for the kind in a question about all versions between two blocks, which come behind the key.
+RANGE = "range"
 
 
 @dataclasses.dataclass
 class Forgery:
-    """A proof of a wrong answer; the text of the verifier that is changed, and what it is changed to, for
-    the proof to be taken; how the line begins by which it is refused; and the root to which it leads, where that
-    isn't the root of the chain."""
+    """A proof of a wrong answer, and its question; the text of the verifier that is changed, and what it is changed
+    to, for the proof to be taken; how the line begins by which it is refused; and the root to which it leads, where
+    that isn't the root of the chain."""
 
     name: str
     question: tuple
@@ -159,31 +161,32 @@ def verifier_of(source):
     return module
 
 
-def told_by(verifier, proof, root, question, is_trace):
-    kind, key, at = question
-    asked = verifier.Question(KINDS.index(kind), key.encode(), at)
+def told_by(verifier, proof, root, question):
+    kind, key, *blocks = question
+    period, of_kind = verifier.Period, verifier.Question
+    asked = period(key.encode(), *blocks) if kind == RANGE else of_kind(KINDS.index(kind), key.encode(), *blocks)
     try:
-        return verifier.proved(verifier.read_proof(proof, is_trace), root, asked)
+        return verifier.proved(verifier.read_proof(proof, verifier.kind_of(proof)), root, asked)
     except verifier.Stop as stop:
         return [stop.line]
 
 
-def wrong_with(forgery, root, made, right, is_trace=False):
+def wrong_with(forgery, root, made, right):
     """What is wrong with a forgery over a chain with this root, where the proof as it is made has the right answer:
     there is nothing where it shows what it is to show."""
     with open(f"{TOP}/verifiers/verify.py", encoding="utf-8") as file:
         source = file.read()
     whole = verifier_of(source)
-    if told_by(whole, made, root, forgery.question, is_trace) != right:
+    if told_by(whole, made, root, forgery.question) != right:
         yield f"{forgery.name}: the verifier doesn't give the right answer"
     root = forgery.root or root
-    [line, *_] = told_by(whole, forgery.proof, root, forgery.question, is_trace)
+    [line, *_] = told_by(whole, forgery.proof, root, forgery.question)
     if not line.startswith(f"rejected {forgery.refused}"):
         yield f"{forgery.name}: the verifier tells {line!r}"
     if source.count(forgery.old) != 1:
         yield f"{forgery.name}: the check stands {source.count(forgery.old)} times in the verifier"
     weakened = verifier_of(source.replace(forgery.old, forgery.new))
-    given = told_by(weakened, forgery.proof, root, forgery.question, is_trace)
+    given = told_by(weakened, forgery.proof, root, forgery.question)
     if given == right or given[0].startswith("rejected"):
         yield f"{forgery.name}: without the check it tells {given!r}"
 

@@ -135,7 +135,7 @@ def check():
     for forgery in forgeries(history):
         _, key, at = forgery.question
         made, right = trace_proof_of(history, BLOCK_DIGEST, key, at, HEAD), trace_of(ROWS, key, at)
-        count, wrong = count + 1, [*wrong, *wrong_with(forgery, root, made, right, is_trace=True)]
+        count, wrong = count + 1, [*wrong, *wrong_with(forgery, root, made, right)]
     for line in wrong:
         print(f"forged_traces: {line}")
     print(f"forged_traces: {count} forgeries, {len(wrong)} wrong")

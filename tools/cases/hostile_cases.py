@@ -7,7 +7,7 @@ tools/cases/block_reader.py.
 import itertools
 from typing import NamedTuple
 
-from cases import forged_traces
+from cases import forged_ranges, forged_traces
 from cases.block_files import (
     FIRST_VERSION, GONE, OK, OUT_OF_STEPS, SECOND_VERSION, block_file, calls, deploys, number, sets,
 )
@@ -18,6 +18,8 @@ from cases.log_cases import (
     REFUSED, REJECTED, SET_ANSWER, SET_FILE, SET_LOG, SET_ROWS, LogCase, frames_of, log_of, upgraded,
 )
 from cases.proof_cases import proof_of
+from cases.range_cases import FAR_BLOCKS, FAR_PATH, FAR_QUESTION, FAR_STEPS, body_of, header_of, range_proof_of
+from cases.range_cases import spelled as spelled_range
 from cases.root_cases import History, Row, block_digests, roots
 from cases.trace_cases import spelled, trace_proof_of
 from cases.verifier import text_of, told_of
@@ -25,7 +27,8 @@ from lineage.draft_faults import MAX_BUDGET, MAX_BUDGETS
 
 
 class Proved(NamedTuple):
-    """The words of `verify` or of `trace verify` with the root of a chain, and the proof of the answer."""
+    """The words of `verify`, of `trace verify` or of `range verify` with the root of a chain, and the proof of the
+    answer."""
 
     words: str
     proof: bytes
@@ -64,6 +67,13 @@ def traced(file, rows, key, at, root_at):
     history, digest = History(rows), block_digests(frames_of(file))[root_at]
     root = history.root(root_at, digest).hex()
     return Proved(f"trace verify {root} {key} {at}", trace_proof_of(history, digest, key, at, root_at))
+
+
+def ranged(file, rows, key, first, last, root_at):
+    history, digest = History(rows), block_digests(frames_of(file))[root_at]
+    root = history.root(root_at, digest).hex()
+    proof = range_proof_of(history, digest, key, first, last, root_at)
+    return Proved(f"range verify {root} {key} {first} {last}", proof)
 
 
 def put(text, offset, byte):
@@ -122,6 +132,35 @@ def made_traces():
         assert made.told(made.proof, "") == (answer, DONE)
         line = made.proof.hex() + "\n"
         yield LogCase(f"trace prove {key} {at} {root_at}", log_of(file), line)
+        yield LogCase(made.words, b"", answer, file=line.encode("ascii"))
+
+
+# The same with a key, a first and a last block and the root block, and the versions.
+MADE_RANGES = [
+    (BANK_FILE, BANK_ROWS, ("bank/n", 0, 3, 3), "versions 2\nblock 1 tx 0 int 5\nblock 2 tx 0 int 8\n"),
+    (BANK_FILE, BANK_ROWS, ("bank/n", 0, 1, 3), "versions 1\nblock 1 tx 0 int 5\n"),
+    (BANK_FILE, BANK_ROWS, ("bank/n", 2, 2, 2), "versions 1\nblock 2 tx 0 int 8\n"),
+    (BANK_FILE, BANK_ROWS, ("bank/n", 0, 0, 3), "versions 0\n"),
+    (BANK_FILE, BANK_ROWS, ("raw/b", 3, 3, 3), "versions 1\nblock 3 tx 0 text x\n"),
+    (BANK_FILE, BANK_ROWS, ("raw/z", 0, 3, 3), "versions 0\n"),
+    (BETWEEN_FILE, BETWEEN_ROWS, ("raw/f", 0, 0, 0), "versions 0\n"),
+]
+
+
+def made_ranges():
+    """The same of all versions between two blocks."""
+    chosen = [("raw/a", 0, 10, 10), ("raw/a", 3, 8, 10), ("raw/a", 2, 9, 9), ("raw/a", 9, 10, 10), ("raw/a", 0, 1, 10)]
+    both = "block 2 tx 0 int 1\nblock 9 tx 0 int 2\n"
+    answers = [
+        f"versions 2\n{both}", "versions 0\n", f"versions 2\n{both}", "versions 1\nblock 9 tx 0 int 2\n",
+        "versions 0\n",
+    ]
+    over_path = [(PATH_FILE, PATH_ROWS, asked, answer) for asked, answer in zip(chosen, answers)]
+    for file, rows, (key, first, last, root_at), answer in [*MADE_RANGES, *over_path]:
+        made = ranged(file, rows, key, first, last, root_at)
+        assert made.told(made.proof, "") == (answer, DONE)
+        line = made.proof.hex() + "\n"
+        yield LogCase(f"range prove {key} {first} {last} {root_at}", log_of(file), line)
         yield LogCase(made.words, b"", answer, file=line.encode("ascii"))
 
 
@@ -254,6 +293,116 @@ def changed_traces():
     for root, forgery in forged_traces.with_roots():
         _, key, at = forgery.question
         yield Proved(f"trace verify {root.hex()} {key} {at}", b"").case(forgery.proof, f"rejected {forgery.refused}")
+
+
+# ---- a proof of two versions between two blocks
+
+
+# All versions of `raw/a` over the eleven blocks. Of its fields the key begins at 4, the first block at 11, the last at
+# 15, the root block at 19, the count of leaves at 55 and the index of the leaf at 59, the leaf at 63; the length of the
+# audit path is at 147, its one hash at 148, the count of headers at 180, the first header at 184. That has four links,
+# and so 86 and 4 times 36 bytes; the second one has none, and the bodies are of 10 bytes each.
+RANGED = ranged(PATH_FILE, PATH_ROWS, "raw/a", 0, 10, 10)
+SECOND_HEADER = 184 + 86 + 4 * 36
+BODIES = SECOND_HEADER + 86
+RANGE_CHANGES = [
+    (3, 0x32, "malformed 0"),
+    (5, 0, "malformed 4"),
+    (6, 0x20, "malformed 6"),
+    (10, ord("b"), "query"),
+    (14, 1, "query"),
+    # The first block is past the last one, and the last one past the root block.
+    (14, 11, "malformed 15"),
+    (18, 9, "query"),
+    (18, 11, "malformed 19"),
+    (22, 9, "malformed 19"),
+    (22, 11, "root"),
+    (58, 3, "malformed 147"),
+    (62, 0, "malformed 63"),
+    (148, 0, "root"),
+    # Of one header, what follows is read as its body; of three, the bodies as a header, whose key is empty.
+    (183, 1, f"malformed {SECOND_HEADER + 10}"),
+    (183, 3, f"malformed {BODIES}"),
+    (180, 1, f"malformed {BODIES}"),
+    (184 + 12, 1, "link 0"),
+    (SECOND_HEADER - 1, 0, "link 0"),
+    (SECOND_HEADER + 12, 1, "link 1"),
+    (SECOND_HEADER + 85, 1, f"malformed {BODIES + 4}"),
+    (BODIES + 8, 9, "body 0"),
+    (BODIES + 9, 1, f"malformed {BODIES + 10}"),
+    (BODIES + 18, 9, "body 1"),
+    (BODIES + 19, 1, f"malformed {BODIES + 20}"),
+]
+
+
+def named_range_changes():
+    """The proof as it is or with a change that is named, and how what is told of it begins."""
+    proof, history = RANGED.proof, History(PATH_ROWS)
+    assert len(proof) == BODIES + 20
+    front, end = proof[:180], proof[184:]
+    newest, older = (header_of(history, "raw/a", block) for block in (9, 2))
+    newest_body, older_body = (body_of(history, "raw/a", block) for block in (9, 2))
+    assert end == newest + older + newest_body + older_body
+    yield RANGED, proof, "versions 2"
+    for offset, byte, cause in RANGE_CHANGES:
+        yield RANGED, put(proof, offset, byte), f"rejected {cause}"
+    yield RANGED, proof + b"\0", f"rejected malformed {len(proof)}"
+    yield RANGED, front + number(1, 4) + newest + newest_body, "rejected path 1"
+    yield RANGED, front + number(0, 4), "rejected path 0"
+    yield RANGED, front + number(2, 4) + newest * 2 + newest_body * 2, "rejected link 1"
+    yield RANGED, front + number(2, 4) + older + newest + older_body + newest_body, "rejected link 0"
+    yield RANGED, front + number(3, 4) + newest + older * 2 + newest_body + older_body * 2, "rejected path 2"
+    yield RANGED, front + number(2, 4) + newest + older + older_body + newest_body, "rejected body 0"
+    yield RANGED, front + number(2, 4) + newest + older + newest_body * 2, "rejected body 1"
+    yield RANGED, front + bytes.fromhex("ffffffff") + end, f"rejected malformed {BODIES}"
+    # A header that is not in the range has no body, and none follows it where the one before it is not in it.
+    middle = ranged(PATH_FILE, PATH_ROWS, "raw/a", 3, 8, 10)
+    fields = middle.proof[:180]
+    assert middle.proof == fields + number(2, 4) + newest + older
+    yield middle, middle.proof, "versions 0"
+    yield middle, middle.proof + older_body, f"rejected malformed {BODIES}"
+    yield middle, fields + number(1, 4) + newest, "rejected path 1"
+    yield middle, fields + number(3, 4) + newest + older * 2, "rejected path 2"
+    last = ranged(PATH_FILE, PATH_ROWS, "raw/a", 3, 10, 10)
+    fields = last.proof[:180]
+    assert last.proof == fields + number(1, 4) + newest + newest_body
+    yield last, last.proof, "versions 1"
+    yield last, fields + number(2, 4) + newest + older + newest_body, "rejected path 1"
+    yield last, fields + number(1, 4) + newest + older_body, "rejected body 0"
+    root, others = RANGED.words.split()[2], RANGED.words.split()[3:]
+    yield RANGED._replace(words=RANGED.words.replace("raw/a", "raw/b")), proof, "rejected query"
+    yield RANGED._replace(words=" ".join(["range verify", "0" * 64, *others])), proof, f"rejected root {root}"
+
+
+def far_ranges():
+    """The proof of three versions far behind the newest one, of a key that no log has: with the nine headers that lead
+    to them, without one that is on the way, without one of the three, and without the last one."""
+    history, head = History([Row("raw/a", at, 0, at, []) for at in FAR_BLOCKS]), FAR_BLOCKS[-1]
+    first, last = FAR_QUESTION
+    asked = Proved(f"range verify {history.root(head, bytes(32)).hex()} raw/a {first} {last}", b"")
+    blocks = [*FAR_PATH, 32, 31]
+    assert len(blocks) == FAR_STEPS
+    told = [(None, "versions 3"), (36, "rejected link 4"), (32, "rejected link 7"), (31, "rejected path 8")]
+    for left_out, begin in told:
+        given = [block for block in blocks if block != left_out]
+        headers = [header_of(history, "raw/a", block) for block in given]
+        bodies = [body_of(history, "raw/a", block) for block in given if first <= block <= last]
+        question = "raw/a", first, last
+        yield asked.case(spelled_range(history, bytes(32), question, head, "raw/a", headers, bodies), begin)
+
+
+def changed_ranges():
+    """The proof with the changes that are named, with each byte changed, and cut at every length; and proofs of wrong
+    versions."""
+    for asked, changed, begin in named_range_changes():
+        yield asked.case(changed, begin)
+    for offset in range(len(RANGED.proof)):
+        yield RANGED.case(turned(RANGED.proof, offset), "rejected")
+        yield RANGED.case(RANGED.proof[:offset], "rejected malformed")
+    for root, forgery in forged_ranges.with_roots():
+        _, key, first, last = forgery.question
+        asked = Proved(f"range verify {root.hex()} {key} {first} {last}", b"")
+        yield asked.case(forgery.proof, f"rejected {forgery.refused}")
 
 
 # ---- a proof of a version that is gone
@@ -421,7 +570,8 @@ def commands_over_wrong_logs():
     wrong_logs = [(image, told, status) for image, told, status in LOG_CHANGES if status == DAMAGED]
     for image, told, status in [*wrong_logs, (turned(SET_LOG, 0), "not a log\n", NOT_A_LOG)]:
         traces = ["trace raw/a 7", "trace prove raw/a 7 7"]
-        for words in ["back raw/a", "fwd raw/a 7", "root", "prove hist raw/a 7 7", expose, *traces, "upgrade"]:
+        others = [*traces, "range raw/a 0 7", "range prove raw/a 0 7 7", "upgrade"]
+        for words in ["back raw/a", "fwd raw/a 7", "root", "prove hist raw/a 7 7", expose, *others]:
             yield LogCase(words, image, told, status, file=source, left=len(source))
 
 
@@ -461,9 +611,11 @@ def hostile_cases():
     yield spent_budgets()
     yield from dict.fromkeys(changed_proofs())
     yield from dict.fromkeys(changed_traces())
+    yield from dict.fromkeys(changed_ranges())
+    yield from far_ranges()
     yield from other_paths()
     yield from gone_proofs()
     exposed = (asked.exposed(SET_LOG, 0, changed, begin) for asked, changed, begin in named_changes())
-    parts = made_proofs(), made_traces(), long_proofs(), exposed, commands_over_wrong_logs(), changed_logs()
-    for case in itertools.chain(*parts):
+    made = made_proofs(), made_traces(), made_ranges(), long_proofs()
+    for case in itertools.chain(*made, exposed, commands_over_wrong_logs(), changed_logs()):
         yield case.case()

@@ -124,6 +124,8 @@ CHAINS = [
             "hist raw/b": "none\n",
             "trace raw/a 0": "block 0 ancestors 0\n",
             "trace raw/b 0": "none\n",
+            "range raw/a 0 0": "versions 1\nblock 0 tx 0 int 1\n",
+            "range raw/b 0 0": "versions 0\n",
         },
     ),
     (
@@ -142,6 +144,9 @@ CHAINS = [
             "fwd raw/a 0": "block 0 uses 1\nraw/b 1\n",
             "trace raw/b 1": "block 1 ancestors 1\nraw/a 0\n",
             "trace raw/b 0": "none\n",
+            "range raw/b 0 1": "versions 1\nblock 1 tx 0 int 2\n",
+            "range raw/b 0 0": "versions 0\n",
+            "range raw/a 1 1": "versions 0\n",
         },
     ),
     (
@@ -180,6 +185,14 @@ CHAINS = [
             "trace raw/z 3": "none\n",
             # Where three words are given, the second one is a key.
             "trace prove 3": "none\n",
+            "range bank/n 0 3": "versions 2\nblock 1 tx 0 int 5\nblock 2 tx 0 int 8\n",
+            "range bank/n 2 2": "versions 1\nblock 2 tx 0 int 8\n",
+            "range raw/a 0 0": "versions 1\nblock 0 tx 1 int 5\n",
+            "range raw/a 1 3": "versions 0\n",
+            "range raw/b 0 3": "versions 1\nblock 3 tx 0 text x\n",
+            # Where four words are given, the second one is a key.
+            "range prove 0 3": "versions 0\n",
+            "range verify 3 3": "versions 0\n",
         },
     ),
     # A block without transactions, and one that sets a text.
@@ -209,6 +222,12 @@ CHAINS = [
             "hist raw/a 2": "block 2 tx 0 int 1\n",
             "hist raw/a 1": "none\n",
             "back raw/a": "block 10 deps 0\n",
+            "range raw/a 0 10": "versions 3\nblock 2 tx 0 int 1\nblock 9 tx 0 int 2\nblock 10 tx 0 int 3\n",
+            "range raw/a 2 9": "versions 2\nblock 2 tx 0 int 1\nblock 9 tx 0 int 2\n",
+            "range raw/a 3 10": "versions 2\nblock 9 tx 0 int 2\nblock 10 tx 0 int 3\n",
+            "range raw/a 9 9": "versions 1\nblock 9 tx 0 int 2\n",
+            "range raw/a 3 8": "versions 0\n",
+            "range raw/a 0 1": "versions 0\n",
         },
     ),
 ]
@@ -249,6 +268,14 @@ def chains():
         yield LogCase("trace raw/a 4294967295", log, beyond, BEYOND)
         yield LogCase(f"trace prove raw/a 0 {head + 1}", log, beyond, BEYOND)
         yield LogCase(f"trace prove raw/a {head + 1} {head}", log, beyond, BEYOND)
+        for range_words in [
+            f"range raw/a 0 {head + 1}", f"range raw/a {head + 1} {head + 1}", "range raw/a 0 4294967295",
+            f"range prove raw/a 0 0 {head + 1}", f"range prove raw/a 0 {head + 1} {head}",
+            f"range prove raw/a {head + 1} {head + 1} 0",
+        ]:
+            yield LogCase(range_words, log, beyond, BEYOND)
+        # No command has a block before the one from which it asks, also past the last one.
+        yield LogCase(f"range raw/a {head + 2} {head + 1}", log, "usage\n", 1)
 
 
 # ---- what is refused
@@ -734,12 +761,27 @@ def words():
         f"trace verify {'0' * 64} raw/a 00", f"trace verify {'0' * 64} raw/a 0 0", f"trace verify {'A' * 64} raw/a 0",
         f"trace verify {'0' * 63} raw/a 0", f"trace verify {'0' * 65} raw/a 0",
     ]
+    root = "0" * 64
+    ranges = [
+        "range", "range raw/a", "range raw/a 0", "range RAW 0 0", "range raw/a 00 0", "range raw/a 0 00",
+        "range raw/a 4294967296 4294967296", "range raw/a 0 4294967296", "range raw/a 1 0", "range raw/a 4294967295 0",
+        "range raw/a 0 0 0", "range hist raw/a 0 0", "ranges raw/a 0 0",
+        "range prove raw/a 0 0", "range prove RAW 0 0 0", "range prove raw/a 00 0 0", "range prove raw/a 0 00 0",
+        "range prove raw/a 0 0 00", "range prove raw/a 0 0 4294967296", "range prove raw/a 1 0 0",
+        "range prove raw/a 1 0 1", "range prove raw/a 0 0 0 0",
+        "range verify raw/a 0 0 0", f"range verify {root} raw/a 0", f"range verify {root} RAW 0 0",
+        f"range verify {root} raw/a 00 0", f"range verify {root} raw/a 0 00", f"range verify {root} raw/a 1 0",
+        f"range verify {root} raw/a 0 4294967296", f"range verify {root} raw/a 0 0 0",
+        f"range verify {'A' * 64} raw/a 0 0", f"range verify {root}0 raw/a 0 0", f"range verify {root[1:]} raw/a 0 0",
+        f"range expose {root} raw/a 0 0", f"range expose {root} raw/a 0 0 0",
+    ]
     others = ["root 00", "root x", "root -1", "root 0 0", "root 4294967296"]
-    for text in ["append x", *questions, *traces, *others]:
+    for text in ["append x", *questions, *traces, *ranges, *others]:
         yield LogCase(text, SET_LOG, "usage\n", 1, file=SET_FILE, left=len(SET_FILE))
     for kind in ["hist", "back", "fwd"]:
         yield LogCase(f"{kind} raw/a", b"", "beyond empty\n", BEYOND)
-    for text in ["root", "root 0", "root 7", "trace raw/a 0", "trace verify 0", "trace prove raw/a 0 0"]:
+    empty = ["root", "root 0", "root 7", "trace raw/a 0", "trace verify 0", "trace prove raw/a 0 0"]
+    for text in [*empty, "range raw/a 0 0", "range prove 0 7", "range verify 0 7", "range prove raw/a 0 0 0"]:
         yield LogCase(text, b"", "beyond empty\n", BEYOND)
 
 

@@ -90,7 +90,7 @@ def answer_of(rows, kind, key, at, root_at):
 class Checked:
     """The rows of a chain and the digests of its blocks, and what the verifier says of proofs over them."""
 
-    is_trace = False
+    of = verify.OF_ANSWER
 
     def __init__(self, rows, digests):
         self.rows = rows
@@ -101,7 +101,7 @@ class Checked:
     def answer(self, proof, root, question):
         """What the verifier prints."""
         try:
-            return verify.proved(verify.read_proof(proof, self.is_trace), root, question)
+            return verify.proved(verify.read_proof(proof, self.of), root, question)
         except verify.Stop as stop:
             return [stop.line]
 
@@ -113,17 +113,21 @@ class Checked:
         """What it proves, by going over the rows."""
         return answer_of(self.rows, kind, key, at, root_at)
 
-    def check(self, kind, key, at, root_at):
-        """The proof of a question is accepted with its answer, and no change of it is accepted."""
-        root = self.history.root(root_at, self.digests[root_at])
-        proof = self.proof_of(kind, key, at, root_at)
-        question = verify.Question(KINDS.index(kind), key.encode(), at)
-        wanted = self.answer_of(kind, key, at, root_at)
-        self.expect(f"{kind} {key} {at} {root_at}", self.answer(proof, root, question), wanted)
+    def question_of(self, kind, key, at):
+        """The question as the verifier has it."""
+        return verify.Question(KINDS.index(kind), key.encode(), at)
+
+    def check(self, *asked):
+        """The proof of a question is accepted with its answer, and no change of it is accepted; what is asked has the
+        root's block behind what the question has."""
+        *question, root_at = asked
+        root, words = self.history.root(root_at, self.digests[root_at]), " ".join(map(str, asked))
+        proof, question = self.proof_of(*asked), self.question_of(*question)
+        self.expect(words, self.answer(proof, root, question), self.answer_of(*asked))
         for offset in range(0, len(proof), 7):
             changed = proof[:offset] + bytes([proof[offset] ^ 1]) + proof[offset + 1 :]
             [line, *_] = self.answer(changed, root, question)
-            self.expect(f"{kind} {key} {at} {root_at}, byte {offset}", line.split()[0], "rejected")
+            self.expect(f"{words}, byte {offset}", line.split()[0], "rejected")
         cut = self.answer(proof[:-1], root, question)[0].split()
         self.expect("a proof that is cut", cut[:2], ["rejected", "malformed"])
         longer = self.answer(proof + b"\0", root, question)
@@ -136,14 +140,14 @@ class Checked:
 
 
 def recorded_cases():
-    """The cases of `verify` and of `trace verify` in crates/run_cases: words, input, and what must be printed, after
-    the status."""
+    """The cases of `verify`, of `trace verify` and of `range verify` in crates/run_cases: words, input, and what must
+    be printed, after the status."""
     with open(f"{TOP}/crates/run_cases/stdin") as stdin, open(f"{TOP}/crates/run_cases/stdout") as stdout:
         printed = stdout.read().removeprefix("== ").split("\n== ")
         for line, told in zip(stdin, printed, strict=True):
             words, *fields = line.rstrip("\n").split("|")
             # A case of a source or a machine that fails has further fields.
-            if words.startswith(("verify ", "trace verify ")) and len(fields) == 2:
+            if words.startswith(("verify ", "trace verify ", "range verify ")) and len(fields) == 2:
                 yield words, bytes.fromhex(fields[1]), told.rstrip("\n").split("\n")
 
 

@@ -7,11 +7,13 @@ of tools/cases/growing_roots.py and tools/cases/proof_cases.py.
 """
 from cases.block_files import OK, block_file, calls, deploys, sets
 from cases.fault_cases import EXPOSE, FILE, FRAMES, HEAD_BLOCK, KNOWN, LINES, LOG, PROOF, QUESTIONS, ROOTS, ROWS
-from cases.fault_cases import ANCESTORS, TRACE_PROOF, TRACE_VERIFY, USES, VERIFY, log_of_first
+from cases.fault_cases import ANCESTORS, RANGE_PROOF, RANGE_VERIFY, TRACE_PROOF, TRACE_VERIFY, USES, VERIFY, VERSIONS
+from cases.fault_cases import log_of_first
 from cases.generated_loads import load_line
 from cases.growing_roots import growing_roots
 from cases.log_cases import ALREADY, DONE, SCRATCH_FAULT, LogCase, frames_of, log_of, upgraded
 from cases.proof_cases import proof_of
+from cases.range_cases import range_proof_of
 from cases.root_cases import History, Row, block_digests
 from cases.trace_cases import trace_proof_of
 
@@ -80,17 +82,20 @@ def with_room(case, room_calls, room_bytes):
 
 def failing_questions():
     """The commands over the log with each call of the device failing. A question about rows makes none; `root`,
-    `trace` and the proofs put each body; and one at an earlier block reads a body of a lineage of the first blocks."""
+    `trace`, `range` and the proofs put each body; and one at an earlier block reads a body of a lineage of the first
+    blocks."""
     rows = len(ROWS)
     digests = block_digests(FRAMES)
     earlier = proof_of(History(ROWS[:1]), digests[0], "hist", "raw/a", 0, 0).hex() + "\n"
     earlier_trace = trace_proof_of(History(ROWS[:1]), digests[0], "raw/a", 0, 0).hex() + "\n"
+    earlier_range = range_proof_of(History(ROWS[:1]), digests[0], "raw/a", 0, 0, 0).hex() + "\n"
     others = {
         "root": [f"root {HEAD_BLOCK} {ROOTS[HEAD_BLOCK]}\n"],
         "prove hist raw/a 0 0": [earlier],
         "trace prove raw/a 0 0": [earlier_trace],
+        "range prove raw/a 0 0 0": [earlier_range],
     }
-    gets = {"prove hist raw/a 0 0": 1, "trace prove raw/a 0 0": 1}
+    gets = {"prove hist raw/a 0 0": 1, "trace prove raw/a 0 0": 1, "range prove raw/a 0 0 0": 1}
     for words, lines in (QUESTIONS | others).items():
         made = 0
         if not words.startswith(("hist", "back", "fwd")):
@@ -159,12 +164,32 @@ def ancestor_not_at_hand():
     yield LogCase("trace raw/x 1", image, told, scratch=f"{got + 1}")
 
 
+def versions_not_at_hand():
+    """Two versions of a key with so many others between them that the body of the first is got where it is read; and
+    where both are asked for by the root at an earlier block, the body of each is."""
+    rows = [Row("raw/x", 0, 0, 5, [])]
+    rows += [Row(f"raw/{at}", 1, at, 5, []) for at in range(AT_HAND)] + [Row("raw/x", 2, 0, 6, [])]
+    blocks = [[sets("raw/x", 5)], [sets(row.key, 5) for row in rows[1:-1]], [sets("raw/x", 6)], []]
+    file = block_file(blocks)
+    frames, image = frames_of(file), log_of(file)
+    told, got = "versions 2\nblock 0 tx 0 int 5\nblock 2 tx 0 int 6\n", len(rows)
+    yield LogCase("range raw/x 0 3", image, "", SCRATCH_FAULT, scratch=f"{got}")
+    yield LogCase("range raw/x 0 3", image, told, scratch=f"{got + 1}")
+    yield LogCase("range raw/x 2 3", image, "versions 1\nblock 2 tx 0 int 6\n", scratch=f"{got}")
+    proof = range_proof_of(History(rows), block_digests(frames)[2], "raw/x", 0, 2, 2).hex() + "\n"
+    for call in range(2):
+        yield LogCase("range prove raw/x 0 2 2", image, "", SCRATCH_FAULT, scratch=f"{got + call}")
+    yield LogCase("range prove raw/x 0 2 2", image, proof, scratch=f"{got + 2}")
+
+
 def without_device():
     """Commands that call no scratch device, over one of which the first call fails."""
     source = PROOF.encode("ascii")
     yield LogCase(VERIFY, b"hello", "".join(USES), file=source, scratch="0")
     source = TRACE_PROOF.encode("ascii")
     yield LogCase(TRACE_VERIFY, b"hello", "".join(ANCESTORS), file=source, scratch="0")
+    source = RANGE_PROOF.encode("ascii")
+    yield LogCase(RANGE_VERIFY, b"hello", "".join(VERSIONS), file=source, scratch="0")
     yield LogCase("scan hist raw/b 2", b"", "block 2 tx 0 int 2\n", file=FILE, scratch="0")
     yield LogCase("fmt", b"", "fn f() {\n}\n", file=b"fn f(){}", scratch="0")
     yield LogCase("pack", b"", "", file=b"[]", scratch="0")
@@ -174,7 +199,7 @@ def scratch_cases():
     """All cases, as tools/cases/log_cases.py gives its own."""
     parts = [
         failing_appends(), failing_upgrades(), small_rooms(), failing_questions(), failing_expose(), failing_loads(),
-        bodies_not_at_hand(), ancestor_not_at_hand(), without_device(),
+        bodies_not_at_hand(), ancestor_not_at_hand(), versions_not_at_hand(), without_device(),
     ]
     for part in parts:
         for case in part:

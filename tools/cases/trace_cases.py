@@ -11,6 +11,7 @@ from cases.generated_chain import Generated
 from cases.log_cases import frames_of
 from cases.proof_cases import Checked, proof_of
 from cases.root_cases import block_digests
+from cases.verifier import verify
 
 MAGIC = b"LCT1"
 
@@ -66,7 +67,7 @@ def trace_proof_of(history, block_digest, key, at, root_at):
 class CheckedTraces(Checked):
     """What the verifier says of proofs of all ancestors over the rows of a chain."""
 
-    is_trace = True
+    of = verify.OF_TRACE
 
     def proof_of(self, _, key, at, root_at):
         return trace_proof_of(self.history, self.digests[root_at], key, at, root_at)

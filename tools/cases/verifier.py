@@ -8,12 +8,12 @@ import verify
 
 
 def told_of(words, source):
-    """What the verifier prints of an input where the words of the command, `verify` or `trace verify`, are these,
-    line by line, and its status."""
+    """What the verifier prints of an input where the words of the command, `verify`, `trace verify` or
+    `range verify`, are these, line by line, and its status."""
     command, *others = words
     try:
-        root, question, is_trace = verify.read_words(others if command == "verify" else [command, *others[1:]])
-        proof = verify.read_proof(verify.read_hex(source), is_trace)
+        of, root, question = verify.read_words(others if command == "verify" else [command, *others[1:]])
+        proof = verify.read_proof(verify.read_hex(source), of)
         return verify.proved(proof, root, question), verify.DONE
     except verify.Stop as stop:
         return [stop.line], stop.status
@@ -24,10 +24,9 @@ def text_of(lines):
 
 
 def root_of(proof):
-    """The root that a proof leads to, of an answer or of all ancestors; none where the bytes are no proof."""
+    """The root that a proof leads to, of whatever it is one; none where the bytes are no proof."""
     try:
-        if proof.startswith(verify.TRACE_MAGIC):
-            return verify.root_of(verify.read_proof(proof, is_trace=True).start)
-        return verify.root_of(verify.read_proof(proof, is_trace=False))
+        read = verify.read_proof(proof, verify.kind_of(proof))
+        return verify.root_of(read.start if isinstance(read, verify.Trace) else read)
     except verify.Stop:
         return None

@@ -18,7 +18,7 @@ from cases.root_cases import History, Row
 from checks.disk_calls import CREATE, LOCK, NEW, SYNCS, TRUNCATE
 from checks.log_runs import LOG, held_frames, is_marked, known_lines
 from checks.program_cases import MADE_FROM, RAW_A_PROOF, RECALL_FILE, RECALL_LINES, RECALL_LOG, RECALL_ROWS, S1, USED
-from checks.program_cases import VERIFY
+from checks.program_cases import BATCH, OF_PART, VERIFY
 from checks.program_runs import take_rights
 from checks.recall_chains import chain_of, over, recall_chain
 
@@ -195,6 +195,7 @@ RUNS = [
     ("upgrade", b"", MARKED_LOG, [ALREADY]),
     (QUESTION, b"", RECALL_LOG, USED_LINES),
     (S1.decode(), b"", RECALL_LOG, MADE_FROM.splitlines(keepends=True)),
+    (OF_PART.decode(), b"", RECALL_LOG, BATCH.splitlines(keepends=True)),
 ]
 
 

@@ -8,7 +8,7 @@ from checks.edge_calls import order_of_calls, order_of_long_runs, pipe_for_log, 
 from checks.imported_calls import imported_calls
 from checks.lock_checks import changes_at_each_call, changes_between_frames, lock_of_another, lock_of_a_run
 from checks.scratch_checks import bodies_read_back, folder_of_the_scratch_file, names_that_are_taken, nothing_is_left
-from checks.scratch_checks import scratch_calls
+from checks.scratch_checks import scratch_calls, versions_read_back
 
 # Those of the log and the streams, and those of the scratch file; of each the short ones come first.
 LOG_PARTS = [
@@ -17,7 +17,8 @@ LOG_PARTS = [
     failing_calls, changes_at_each_call,
 ]
 SCRATCH_PARTS = [
-    bodies_read_back, folder_of_the_scratch_file, names_that_are_taken, nothing_is_left, scratch_calls,
+    bodies_read_back, versions_read_back, folder_of_the_scratch_file, names_that_are_taken, nothing_is_left,
+    scratch_calls,
 ]
 PARTS = LOG_PARTS + SCRATCH_PARTS
 

@@ -99,6 +99,8 @@ def lock_of_another(checks, watched):
         checks.same("expose meanwhile", (ran.told, ran.status), ("no clash\n", DONE))
         told = "block 0 ancestors 0\n", DONE
         checks.same("trace meanwhile", ask(watched.program, folder, *"trace raw/a 0".split()), told)
+        told = "versions 1\nblock 0 tx 0 int 5\n", DONE
+        checks.same("range meanwhile", ask(watched.program, folder, *"range raw/a 0 0".split()), told)
 
 
 def lock_of_a_run(checks, watched):

@@ -2,8 +2,8 @@
 
 Nothing of it comes from what the program told: blocks, files and logs are read by
 tools/cases/block_reader.py, proofs by verifiers/verify.py, roots and proofs of chains without calls worked
-out by tools/cases/root_cases.py, tools/cases/proof_cases.py and tools/cases/trace_cases.py from the rows of
-their Sets, and drafts read by Python's reader of JSON.
+out by tools/cases/root_cases.py, proof_cases.py, trace_cases.py and range_cases.py there from the rows of their
+Sets, and drafts read by Python's reader of JSON.
 """
 import dataclasses
 import itertools
@@ -15,10 +15,11 @@ from cases.block_files import calls, deploys, number, sets
 from cases.block_reader import MAX_BUDGETS, MAX_NUMBER, MAX_TXS, Call, Deploy, Set, stands_for, Chain
 from cases.log_cases import ALREADY, BAD_INPUT, BEYOND, DAMAGED, DONE, NOT_A_LOG, REFUSED, REJECTED, USAGE, upgraded
 from cases.proof_cases import answer_of, proof_of
+from cases.range_cases import range_of, range_proof_of
 from cases.root_cases import History, Row, block_digests
 from cases.trace_cases import trace_of, trace_proof_of
 from cases.verifier import text_of, told_of, verify
-from checks.mutants import KINDS
+from checks.mutants import KINDS, is_made
 from lineage import draft_faults
 
 MAX_DEPTH = 127
@@ -30,6 +31,7 @@ STATUSES = {
     "verify": {DONE, USAGE, REJECTED, BAD_INPUT},
     "expose": {DONE, USAGE, NOT_A_LOG, DAMAGED, BEYOND, REJECTED, BAD_INPUT},
     "trace": {DONE, USAGE, REJECTED, BAD_INPUT},
+    "range": {DONE, USAGE, REJECTED, BAD_INPUT},
     "log": {DONE, USAGE, NOT_A_LOG, DAMAGED, BEYOND},
     "scan": {DONE, USAGE, REFUSED, BEYOND},
     "append": {DONE, USAGE, NOT_A_LOG, DAMAGED, REFUSED},
@@ -37,6 +39,7 @@ STATUSES = {
     "fmt": {DONE, BAD_INPUT},
     "pack": {DONE, BAD_INPUT},
 }
+VERSION = r"block (\d+) tx \d+ (?:int -?\d+|text [ -~]{0,8192}|gone)\n"
 ITEM = r"[a-z0-9./_-]{1,64} \d+\n"
 FMT_FAULT = re.compile(
     r"badinput syntax (\d+) (?:byte|literal|expected|end|deep)\n|badinput check (\d+) (?:unknown|again|count|kind)\n"
@@ -73,12 +76,21 @@ def is_answer(kind, told, at):
     if told == "none\n":
         return True
     if kind == "hist":
-        found = re.fullmatch(r"block (\d+) tx \d+ (?:int -?\d+|text [ -~]{0,8192}|gone)\n", told)
+        found = re.fullmatch(VERSION, told)
         return bool(found) and int(found[1]) <= at
     word = {"back": "deps", "fwd": "uses", "trace": "ancestors"}[kind]
     found = re.fullmatch(rf"block (\d+) {word} (\d+)\n((?:{ITEM})*)", told)
     is_formed = bool(found) and int(found[1]) <= at and int(found[2]) == found[3].count("\n")
     return is_formed and (kind != "trace" or is_trace(told, at))
+
+
+def is_range(told, first, last):
+    """Whether lines are versions from a block to another one, in their order."""
+    head, *lines = told.splitlines(keepends=True)
+    found = [re.fullmatch(VERSION, line) for line in lines]
+    blocks = [int(version[1]) for version in found if version]
+    are_between = all(first <= block <= last for block in blocks) and blocks == sorted(set(blocks))
+    return all(found) and head == f"versions {len(lines)}\n" and are_between
 
 
 @dataclasses.dataclass
@@ -149,14 +161,20 @@ def check_block_line(chain, at, told):
                 expect(f"status in block {at}", int(status), wanted)
 
 
-def check_answer(chain, kind, key, at, told):
-    """The answer to a question over a chain that has the block; or all ancestors, for `trace`."""
+def check_answer(chain, kind, key, blocks, told):
+    """The answer to a question over a chain that has its block; or all ancestors, for `trace`, and all versions between
+    two blocks, for `range`."""
     done = plain(chain)
     if done is None:
-        return hold(f"no answer: {told!r:.300}", is_answer(kind, told, at))
-    is_of_all = kind == "trace"
-    wanted = trace_of(done.rows, key, at) if is_of_all else answer_of(done.rows, kind, key, at, len(chain.blocks) - 1)
-    return expect("answer", told, "".join(f"{line}\n" for line in wanted))
+        is_formed = is_range(told, *blocks) if kind == "range" else is_answer(kind, told, *blocks)
+        return hold(f"no answer: {told!r:.300}", is_formed)
+    if kind == "range":
+        wanted = range_of(done.rows, key, *blocks)
+    elif kind == "trace":
+        wanted = trace_of(done.rows, key, *blocks)
+    else:
+        wanted = answer_of(done.rows, kind, key, *blocks, len(chain.blocks) - 1)
+    return expect("answer", told, text_of(wanted))
 
 
 def beyond(chain):
@@ -177,17 +195,16 @@ def is_command(words):
     if words[0] == "root":
         return len(words) == 1 or len(words) == 2 and is_number(words[1])
     if words[0] == "trace":
-        asked = words[1 + proves(words) :]
-        is_of_key = len(asked) == 2 + proves(words) and is_question("back", asked[0])
+        asked = words[1 + is_made(words) :]
+        is_of_key = len(asked) == 2 + is_made(words) and is_question("back", asked[0])
         return is_of_key and all(map(is_number, asked[1:]))
+    if words[0] == "range":
+        asked = words[1 + is_made(words) :]
+        is_of_key = len(asked) == 3 + is_made(words) and is_question("back", asked[0])
+        return is_of_key and all(map(is_number, asked[1:])) and int(asked[1]) <= int(asked[2])
     counts = {"scan": [3], "prove": [4]}.get(words[0], [2, 3])
     words = words[words[0] in ("scan", "prove") :]
     return len(words) in counts and is_question(*words[:2]) and all(map(is_number, words[2:]))
-
-
-def proves(words):
-    """Whether words are those of a proof that is made, if they are a command."""
-    return words[0] == "prove" or words[:2] == ["trace", "prove"] and len(words) == 5
 
 
 def check_usage(words, result):
@@ -203,7 +220,7 @@ def check_usage(words, result):
 
 def verified(mutant):
     """What verifiers/verify.py tells of a proof, and its status."""
-    words = mutant.words if mutant.kind == "trace" else ["verify", *mutant.words[1:5]]
+    words = mutant.words if mutant.kind in ("trace", "range") else ["verify", *mutant.words[1:5]]
     lines, status = told_of(words, mutant.source)
     return text_of(lines), status
 
@@ -239,9 +256,9 @@ def check_log(mutant, result):
     if line:
         status = NOT_A_LOG if line.startswith("not") else DAMAGED
         return expect("log", (result.told, result.status), (line, status))
-    numbers = [int(word) for word in words[1 if words[0] == "root" else 3 if proves(words) else 2 :]]
+    numbers = [int(word) for word in words[1 if words[0] == "root" else 3 if is_made(words) else 2 :]]
     head = len(chain.blocks) - 1
-    is_past = proves(words) and numbers[0] > numbers[1]
+    is_past = is_made(words) and numbers[-2] > numbers[-1]
     if head < 0 or is_past or max(numbers, default=0) > head:
         return expect("log", (result.told, result.status), (beyond(chain), BEYOND))
     expect("status", result.status, DONE)
@@ -250,37 +267,45 @@ def check_log(mutant, result):
         found = re.fullmatch(rf"root {at} ([0-9a-f]{{64}})\n", result.told)
         hold(f"no root: {result.told!r:.300}", found)
         return check_root(chain, at, found[1])
-    if proves(words):
+    if is_made(words):
         return check_made_proof(chain, words, numbers, result.told)
-    return check_answer(chain, words[0], words[1], numbers[0] if numbers else head, result.told)
+    return check_answer(chain, words[0], words[1], numbers or [head], result.told)
 
 
 def check_made_proof(chain, words, numbers, told):
     """A proof that is made is accepted under the root to which it leads, with an answer over the blocks up to
     that of the root."""
-    is_of_all, key = words[0] == "trace", words[2]
-    kind = "back" if is_of_all else words[1]
+    kind, key = words[0] if words[0] in MADE else words[1], words[2]
+    of, make = MADE.get(kind, (verify.OF_ANSWER, None))
+    *blocks, root_at = numbers
     try:
-        proof = verify.read_proof(bytes.fromhex(told.removesuffix("\n")), is_of_all)
-        start = proof.start if is_of_all else proof
-        question = verify.Question(KINDS.index(kind), key.encode(), numbers[0])
-        lines = verify.proved(proof, verify.root_of(start), question)
+        proof = verify.read_proof(bytes.fromhex(told.removesuffix("\n")), of)
+        start = proof.start if of == verify.OF_TRACE else proof
+        lines = verify.proved(proof, verify.root_of(start), question_of(kind, key, blocks))
     except (ValueError, verify.Stop) as stop:
         raise Wrong(f"a proof that is made: {stop}") from stop
-    expect("root block", start.root_block, numbers[1])
+    expect("root block", start.root_block, root_at)
     known = small(chain)
     if known:
         done, digests = known
-        made, digest = done.history(), digests[numbers[1]]
-        if is_of_all:
-            wanted = trace_proof_of(made, digest, key, *numbers)
-        else:
-            wanted = proof_of(made, digest, kind, key, *numbers)
+        made, digest = done.history(), digests[root_at]
+        wanted = make(made, digest, key, *numbers) if make else proof_of(made, digest, kind, key, *numbers)
         expect("proof", told, f"{wanted.hex()}\n")
     until = Chain()
-    for frame in chain.frames[: numbers[1] + 1]:
+    for frame in chain.frames[: root_at + 1]:
         until.take_in(frame)
-    check_answer(until, "trace" if is_of_all else kind, key, numbers[0], "".join(f"{line}\n" for line in lines))
+    check_answer(until, kind, key, blocks, text_of(lines))
+
+
+# The proofs of more than an answer: what the verifier reads each as, and how it is made from rows.
+MADE = {"trace": (verify.OF_TRACE, trace_proof_of), "range": (verify.OF_RANGE, range_proof_of)}
+
+
+def question_of(kind, key, blocks):
+    """A question as the verifier has it; that of all ancestors is what the version was derived from."""
+    if kind == "range":
+        return verify.Period(key.encode(), *blocks)
+    return verify.Question(KINDS.index("back" if kind == "trace" else kind), key.encode(), *blocks)
 
 
 def check_scan(mutant, result):
@@ -296,7 +321,7 @@ def check_scan(mutant, result):
     if at >= len(chain.blocks):
         return expect("scan", (result.told, result.status), (beyond(chain), BEYOND))
     expect("status", result.status, DONE)
-    return check_answer(chain, words[1], words[2], at, result.told)
+    return check_answer(chain, words[1], words[2], [at], result.told)
 
 
 def check_append(mutant, result):
@@ -358,6 +383,7 @@ COMMANDS = {
     "verify": check_verify,
     "expose": check_expose,
     "trace": check_verify,
+    "range": check_verify,
     "log": check_log,
     "scan": check_scan,
     "append": check_append,

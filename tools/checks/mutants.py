@@ -9,6 +9,7 @@ import re
 
 from cases.block_files import SECOND_VERSION, block_digest, number
 from cases.block_reader import MAX_TXS, Fields, Invalid
+from cases.drawn_ranges import drawn_range
 from cases.drawn_traces import drawn_trace
 from cases.generated_chain import Generated
 from cases.log_cases import CLOSED, HEAD, MARK, OPEN, frames_of, log_of
@@ -26,7 +27,9 @@ GENERATED = (40, 7)
 # Where the transactions of a block begin to be counted, after its version, number and parent.
 TXS_AT = 37
 # How often each command is, of all mutants.
-SHARES = {"verify": 21, "expose": 9, "trace": 12, "log": 22, "scan": 10, "append": 9, "fmt": 9, "pack": 8}
+SHARES = {
+    "verify": 18, "expose": 8, "trace": 10, "range": 11, "log": 22, "scan": 9, "append": 8, "fmt": 7, "pack": 7,
+}
 # Numbers at the limits of one, two, four and eight bytes.
 LIMITS = [bytes([byte]) * width for width in (1, 2, 4, 8) for byte in (0x00, 0x7F, 0x80, 0xFF)]
 LIMITS += [OPEN, *(number(of, 2) for of in (64, 65, 1_024, 8_192)), number(1_048_576, 4), number(1_000_001, 4)]
@@ -58,11 +61,12 @@ class Mutant:
 
 @dataclasses.dataclass
 class Seeds:
-    """What the cases have: proofs, each with its words and its log; proofs of ancestors, each with its words; logs;
-    block files; block files that are appended to logs; contracts; drafts."""
+    """What the cases have: proofs, each with its words and its log; proofs of ancestors and of ranges, each with its
+    words; logs; block files; block files that are appended to logs; contracts; drafts."""
 
     proofs: list
     traces: list
+    ranges: list
     logs: list
     files: list
     appended: list
@@ -107,11 +111,11 @@ def read_seeds():
             proof = read_hex(source)
             if proof:
                 found["proofs"].append((words[1:], proof, image or None))
-        elif words[:2] == ["trace", "verify"] and len(words) == 5:
+        elif words[1:2] == ["verify"] and (command, len(words)) in [("trace", 5), ("range", 6)]:
             proof = read_hex(source)
             if proof:
-                found["traces"].append((words[2:], proof))
-        elif command in ("root", "prove", "upgrade", "trace", *KINDS):
+                found[command].append((words[2:], proof))
+        elif command in ("root", "prove", "upgrade", "trace", "range", *KINDS):
             found["logs"].append((words, image))
         elif command in ("scan", "append", "fmt", "pack"):
             found[command].append((words, source, image or None))
@@ -122,7 +126,8 @@ def read_seeds():
     found["logs"] += [(["root"], log_of(file)) for file in files]
     return Seeds(
         found["proofs"],
-        found["traces"],
+        found["trace"],
+        found["range"],
         found["logs"],
         found["scan"],
         found["append"],
@@ -348,24 +353,25 @@ def changed_digits(proof, rng):
     return digits
 
 
-def trace_mutant(seeds, rng):
-    """A proof of ancestors that is drawn, or changed, mostly against its own root; now and then the question or the
-    digits are changed."""
-    words, proof = rng.choice(seeds.traces)
+def drawn_mutant(kind, seeds, rng):
+    """A proof of ancestors or of a range that is drawn, or changed, mostly against its own root; now and then the
+    question or the digits are changed."""
+    given, draw = (seeds.traces, drawn_trace) if kind == "trace" else (seeds.ranges, drawn_range)
+    words, proof = rng.choice(given)
     words, is_drawn = list(words), rng.randrange(2)
     if is_drawn:
-        proof, asked = drawn_trace(rng)
+        proof, asked = draw(rng)
         words = [root_of(proof).hex(), *asked]
     if not rng.randrange(6) if is_drawn else rng.randrange(20):
-        proof = changes(proof, [other for _, other in seeds.traces], LIMITS, rng)
+        proof = changes(proof, [other for _, other in given], LIMITS, rng)
     if rng.randrange(2):
         own = root_of(proof)
         words[0] = own.hex() if own else words[0]
     if rng.randrange(25) == 0:
         at = rng.randrange(len(words))
-        words[at] = near(words[at], rng) if at > 1 else rng.choice(rng.choice(seeds.traces)[0])
+        words[at] = near(words[at], rng) if at > 1 else rng.choice(rng.choice(given)[0])
     digits = changed_digits(proof, rng)
-    return Mutant("trace", ["trace", "verify", *words], digits, None, read_hex(digits) or b"")
+    return Mutant(kind, [kind, "verify", *words], digits, None, read_hex(digits) or b"")
 
 
 def appended_file(image, seeds, rng):
@@ -394,13 +400,21 @@ def log_mutant(seeds, rng):
     if pick == 1:
         words = rng.choice([["root"], ["root", str(rng.randrange(4))]])
     elif words[0] != "root" and len(words) > 2:
-        front = 3 if words[0] == "trace" and len(words) == 5 else 2
+        front = 3 if is_made(words) else 2
         words = [*words[:front], *(near(word, rng) for word in words[front:])]
     elif words[0] == "root":
         key = rng.choice(["raw/a", "raw/b", "mix/3", "c/log"])
         traces = rng.choice([["trace", key, "0"], ["trace", key, "1"], ["trace", "prove", key, "0", "0"]])
-        words = rng.choice([words, [rng.choice(KINDS), key], ["prove", rng.choice(KINDS), key, "0", "0"], traces])
+        ranges = [["range", key, "0", "1"], ["range", key, "1", "2"], ["range", "prove", key, "0", "1", "1"]]
+        proofs = ["prove", rng.choice(KINDS), key, "0", "0"]
+        words = rng.choice([words, [rng.choice(KINDS), key], proofs, traces, rng.choice(ranges)])
     return Mutant("log", list(words), b"", image)
+
+
+def is_made(words):
+    """Whether words are those of a proof that is made, if they are a command."""
+    is_other = words[1:2] == ["prove"] and (words[0], len(words)) in [("trace", 5), ("range", 6)]
+    return words[0] == "prove" or is_other
 
 
 def mutant(place, seeds):
@@ -409,8 +423,8 @@ def mutant(place, seeds):
     (kind,) = rng.choices(list(SHARES), SHARES.values())
     if kind in ("verify", "expose"):
         return proof_mutant(kind, seeds, rng)
-    if kind == "trace":
-        return trace_mutant(seeds, rng)
+    if kind in ("trace", "range"):
+        return drawn_mutant(kind, seeds, rng)
     if kind == "log":
         return log_mutant(seeds, rng)
     if kind in ("scan", "append"):

@@ -3,10 +3,13 @@
 What is expected was written from docs/formats.md and docs/language.md, never from what the program
 printed.
 """
+import json
+
 from cases.block_files import block_file
+from cases.generated_chain import spelled
 from cases.generated_loads import load_line
 from cases.log_cases import ALREADY, MARK, OPEN, SET_FILE, SET_LINE, SET_LOG, SET_ROWS, frames_of, log_of, upgraded
-from cases.root_cases import Row, roots
+from cases.root_cases import History, Row, digest_of, roots
 from cases.version_cases import DROPS, EDITIONS, SECOND_SET, of_versions
 from checks.log_runs import NO_ROOT
 from checks.program_runs import TOP, Case
@@ -93,6 +96,75 @@ def s1_proof(count, *items):
 
 
 LOT, PART = (380, 530), (530, 634)
+
+# The stock of two shelves of a shop, a block a day: by the draft, in which block which shelf had how much, worked out
+# by hand from what was filled and sold. Each version but the first of a shelf is derived from the one before it.
+with open(f"{TOP}/examples/shelf.json", encoding="utf-8") as shelf:
+    SHELF_DRAFT = shelf.read()
+SHELF_FILE = block_file([[spelled(tx) for tx in block] for block in json.loads(SHELF_DRAFT)])
+SHELF_LOG = log_of(SHELF_FILE)
+STOCK = {
+    "shelf/s7": {
+        2: 40, 6: 28, 11: 19, 17: 4, 22: 40, 28: 33, 33: 22, 38: 14, 44: 0, 45: 48, 51: 38, 58: 21, 61: 18, 62: 12,
+        64: 36,
+    },
+    "shelf/s8": {3: 24, 11: 14, 40: 0},
+}
+
+
+def shelf_rows():
+    """The rows of these blocks. In block 11 the second shelf is that of the second transaction."""
+    for at in range(len(frames_of(SHELF_FILE))):
+        for tx, (key, stock) in enumerate((key, stock) for key, stock in STOCK.items() if at in stock):
+            earlier = [block for block in stock if block < at]
+            yield Row(key, at, tx, stock[at], [(key, earlier[-1])] if earlier else [])
+
+
+SHELF_ROWS = list(shelf_rows())
+SHELF_HEAD = len(frames_of(SHELF_FILE)) - 1
+SHELF_ROOT = roots(frames_of(SHELF_FILE), SHELF_ROWS)[SHELF_HEAD]
+# All that the shelf s7 held in the blocks of one month; and a proof of that under the root of the last block, of 2,685
+# bytes, in hex and a line end, by docs/proofs.md. The count of headers stands at the offset 228; then come the headers
+# of the blocks 64, 62, 61, 58, 51, 45, 44, 38 and 33, that of block 44 at 1,558, the next one at 1,791 and the last at
+# 1,988; and from 2,293 on the bodies of the last seven, of 56 bytes each.
+MAY = b"range shelf/s7 31 61"
+IN_MAY = """\
+versions 7
+block 33 tx 0 int 22
+block 38 tx 0 int 14
+block 44 tx 0 int 0
+block 45 tx 0 int 48
+block 51 tx 0 int 38
+block 58 tx 0 int 21
+block 61 tx 0 int 18
+"""
+with open(f"{TOP}/examples/shelf-s7.proof", "rb") as shelf_s7:
+    MAY_PROOF = shelf_s7.read()
+PROVE_MAY = b"range prove shelf/s7 31 61 65"
+VERIFY_MAY = f"range verify {SHELF_ROOT} shelf/s7 31 61".encode()
+
+
+def may_proof(count, *pieces):
+    """The proof with so many headers, of which these pieces stand behind the count."""
+    pieces = [MAY_PROOF[: 2 * 228], b"%08x" % count, *(MAY_PROOF[2 * start : 2 * end] for start, end in pieces), b"\n"]
+    return b"".join(pieces)
+
+
+def link_of(block):
+    """The digest of the header of that shelf in a block."""
+    return History(SHELF_ROWS).header_digest("shelf/s7", block).hex()
+
+
+# The proof without the version of the block 44, in which the shelf was empty; without the first version; with that
+# once more; and with the first two bodies in place of each other.
+WITHOUT_44 = may_proof(8, (232, 1558), (1791, 2517), (2573, 2685))
+WITHOUT_33 = may_proof(8, (232, 1988), (2293, 2629))
+TWICE_33 = may_proof(10, (232, 2293), (1988, 2293), (2293, 2685), (2629, 2685))
+SWAPPED = may_proof(9, (232, 2293), (2349, 2405), (2293, 2349), (2405, 2685))
+SECOND_BODY = digest_of(b"\3" + bytes.fromhex(MAY_PROOF[2 * 2349 : 2 * 2405].decode())).hex()
+
+# All versions of a part.
+OF_PART, BATCH = b"range raw/part/p1 0 2", "versions 1\nblock 0 tx 0 text batch 17\n"
 
 # A contract of the second edition, and the canonical text of another.
 DROPPING = b'fn g() { drop "c/a"; }'
@@ -217,6 +289,23 @@ CASES = [
     Case(PROVE_S1, None, "", 12, log=RECALL_LOG, is_read_only=True),
     Case(VERIFY_S1, S1_PROOF, MADE_FROM, 0),
     Case(VERIFY_S1, S1_PROOF.rstrip().upper(), MADE_FROM, 0, log=b"hello"),
+    # All versions between two blocks, and proofs of them. Where four words are given, the second one is a key.
+    Case(b"pack", SHELF_DRAFT.encode(), SHELF_FILE, 0),
+    Case(MAY, None, IN_MAY, 0, log=SHELF_LOG),
+    Case(MAY, None, IN_MAY, 0, streams="<&-", log=log_of(SHELF_FILE, b"")),
+    Case(b"range shelf/s7 34 37", None, "versions 0\n", 0, log=SHELF_LOG),
+    Case(b"range shelf/s7 44 44", None, "versions 1\nblock 44 tx 0 int 0\n", 0, log=SHELF_LOG),
+    Case(b"range shelf/s8 4 65", None, "versions 2\nblock 11 tx 1 int 14\nblock 40 tx 0 int 0\n", 0, log=SHELF_LOG),
+    Case(OF_PART, None, BATCH, 0, log=RECALL_LOG),
+    Case(b"range raw/part/p9 0 2", None, "versions 0\n", 0, log=RECALL_LOG),
+    Case(b"range prove 0 2", None, "versions 0\n", 0, log=RECALL_LOG),
+    Case(b"range verify 2 2", None, "versions 0\n", 0, log=RECALL_LOG),
+    Case(PROVE_MAY, None, MAY_PROOF, 0, log=SHELF_LOG),
+    Case(PROVE_MAY, None, MAY_PROOF, 0, streams="<&-", log=SHELF_LOG),
+    Case(MAY, None, "", 12, log=SHELF_LOG, is_read_only=True),
+    Case(PROVE_MAY, None, "", 12, log=SHELF_LOG, is_read_only=True),
+    Case(VERIFY_MAY, MAY_PROOF, IN_MAY, 0),
+    Case(VERIFY_MAY, MAY_PROOF.rstrip().upper(), IN_MAY, 0, log=b"hello"),
     # 1: the words are no command: none, too few, one too many before or after those of a command.
     Case(b"", ONE_SET, "usage\n", 1),
     Case(b"scan hist raw/a", ONE_SET, "usage\n", 1),
@@ -249,6 +338,16 @@ CASES = [
     Case(PROVE_S1 + b" 2", None, "usage\n", 1, log=RECALL_LOG),
     Case(VERIFY_S1.replace(b"c36b", b"C36b"), S1_PROOF, "usage\n", 1),
     Case(VERIFY_S1 + b" 2", S1_PROOF, "usage\n", 1),
+    Case(b"range shelf/s7 31", None, "usage\n", 1, log=SHELF_LOG),
+    Case(b"range shelf/s7 61 31", None, "usage\n", 1, log=SHELF_LOG),
+    Case(b"range shelf/s7 031 61", None, "usage\n", 1, log=SHELF_LOG),
+    Case(b"range hist shelf/s7 31 61", None, "usage\n", 1, log=SHELF_LOG),
+    Case(MAY + b" 65", None, "usage\n", 1, log=SHELF_LOG),
+    Case(b"range prove shelf/s7 61 31 65", None, "usage\n", 1, log=SHELF_LOG),
+    Case(PROVE_MAY + b"a", None, "usage\n", 1, log=SHELF_LOG),
+    Case(PROVE_MAY + b" 65", None, "usage\n", 1, log=SHELF_LOG),
+    Case(VERIFY_MAY.replace(b" 31 61", b" 61 31"), MAY_PROOF, "usage\n", 1),
+    Case(VERIFY_MAY + b" 65", MAY_PROOF, "usage\n", 1),
     Case(EXPOSE + b"0", RAW_A_PROOF, "usage\n", 1, log=SET_LOG),
     # 2: reading fails, and nothing is printed.
     Case(SCAN, None, "", 2, streams="<&-"),
@@ -256,6 +355,7 @@ CASES = [
     Case(b"pack", None, "", 2, streams="<&-"),
     Case(b"append", None, "", 2, streams="<&-"),
     Case(VERIFY_S1, None, "", 2, streams="<&-"),
+    Case(VERIFY_MAY, None, "", 2, streams="<&-"),
     # The log does not take the place of a stream that is closed.
     Case(b"append", None, "", 2, streams="<&-", log=SET_LOG),
     Case(b"append", None, "", 2, streams="<&- >&- 2>&-", log=SET_LOG),
@@ -279,6 +379,9 @@ CASES = [
     Case(S1, None, "", 3, streams=">/dev/full", log=RECALL_LOG),
     Case(PROVE_S1, None, "", 3, streams=">&-", log=RECALL_LOG),
     Case(VERIFY_S1, S1_PROOF, "", 3, streams=">&-"),
+    Case(MAY, None, "", 3, streams=">/dev/full", log=SHELF_LOG),
+    Case(PROVE_MAY, None, "", 3, streams=">&-", log=SHELF_LOG),
+    Case(VERIFY_MAY, MAY_PROOF, "", 3, streams=">&-"),
     # 4: the log is a folder; a device, of zeros or of nothing; a link to no folder.
     Case(b"append", ONE_SET, "", 4, log="."),
     Case(b"hist raw/a", None, "", 4, log="."),
@@ -301,6 +404,10 @@ CASES = [
     Case(EXPOSE, b"zz", "not a log\n", 6, log=b"hello"),
     Case(S1, None, "not a log\n", 6, log=b"hello"),
     Case(PROVE_S1, None, "not a log\n", 6, log=b"hello"),
+    Case(MAY, None, "not a log\n", 6, log=b"hello"),
+    Case(PROVE_MAY, None, "not a log\n", 6, log=b"hello"),
+    Case(MAY, None, "damaged at 8\n", 7, log=SET_LOG[:40]),
+    Case(PROVE_MAY, None, "damaged at 8\n", 7, log=SET_LOG[:40]),
     Case(S1, None, "damaged at 8\n", 7, log=SET_LOG[:40]),
     Case(PROVE_S1, None, "damaged at 8\n", 7, log=SET_LOG[:40]),
     Case(EXPOSE, b"zz", "damaged at 8\n", 7, log=SET_LOG[:40]),
@@ -340,6 +447,13 @@ CASES = [
     Case(b"trace prove raw/shop/s1 2 3", None, "beyond head 2\n", 9, log=RECALL_LOG),
     Case(b"trace prove raw/shop/s1 2 1", None, "beyond head 2\n", 9, log=RECALL_LOG),
     Case(b"trace prove raw/shop/s1 2 1", None, "beyond empty\n", 9, log=EMPTY_LOG[:8] + b"\0"),
+    Case(MAY, None, "beyond empty\n", 9),
+    Case(MAY, None, "beyond head 2\n", 9, log=RECALL_LOG),
+    Case(b"range shelf/s7 31 66", None, "beyond head 65\n", 9, log=SHELF_LOG),
+    Case(b"range shelf/s7 66 66", None, "beyond head 65\n", 9, log=SHELF_LOG),
+    Case(b"range prove shelf/s7 31 61 66", None, "beyond head 65\n", 9, log=SHELF_LOG),
+    Case(b"range prove shelf/s7 31 61 60", None, "beyond head 65\n", 9, log=SHELF_LOG),
+    Case(PROVE_MAY, None, "beyond empty\n", 9, log=EMPTY_LOG[:8] + b"\0"),
     Case(SCAN, b"", "beyond empty\n", 9),
     Case(b"scan hist raw/a 1", ONE_SET, "beyond head 0\n", 9),
     # 10: a proof is not accepted.
@@ -374,6 +488,21 @@ CASES = [
     Case(VERIFY_S1, s1_proof(1, LOT), "rejected trace missing 2\n", 10),
     Case(VERIFY_S1, s1_proof(1, PART), "rejected trace order 1\n", 10),
     Case(VERIFY_S1, s1_proof(3, LOT, PART, PART), "rejected trace extra 3\n", 10),
+    Case(VERIFY_MAY, b"", "rejected malformed 0\n", 10),
+    Case(VERIFY_MAY, RAW_A_PROOF, "rejected malformed 0\n", 10),
+    Case(VERIFY_MAY, S1_PROOF, "rejected malformed 0\n", 10),
+    Case(VERIFY, MAY_PROOF, "rejected malformed 0\n", 10),
+    Case(VERIFY_S1, MAY_PROOF, "rejected malformed 0\n", 10),
+    Case(VERIFY_MAY, MAY_PROOF[:-3], "rejected malformed 2653\n", 10),
+    Case(VERIFY_MAY, MAY_PROOF[:-1] + b"00", "rejected malformed 2685\n", 10),
+    Case(VERIFY_MAY.replace(b"s7", b"s8"), MAY_PROOF, "rejected query\n", 10),
+    Case(VERIFY_MAY[:-2] + b"62", MAY_PROOF, "rejected query\n", 10),
+    Case(VERIFY_MAY.replace(b" 6714", b" 6715"), MAY_PROOF, f"rejected root {SHELF_ROOT}\n", 10),
+    Case(VERIFY_MAY, WITHOUT_44, f"rejected link 6 {link_of(38)}\n", 10),
+    Case(VERIFY_MAY, WITHOUT_33, "rejected path 8\n", 10),
+    Case(VERIFY_MAY, TWICE_33, "rejected path 9\n", 10),
+    Case(VERIFY_MAY, SWAPPED, f"rejected body 0 {SECOND_BODY}\n", 10),
+    Case(VERIFY_MAY, may_proof(0), "rejected path 0\n", 10),
     # 11: the input is no contract, no draft or no hex, or too long.
     Case(b"fmt", b"fn f()", "badinput syntax 6 end\n", 11),
     Case(b"fmt", DROPPING, "badinput syntax 14 expected\n", 11),
@@ -396,6 +525,9 @@ CASES = [
     Case(VERIFY_S1, b"abc", "badinput odd\n", 11),
     Case(VERIFY_S1, S1_PROOF[:6] + b"g" + S1_PROOF[7:], "badinput at 6\n", 11),
     Case(VERIFY_S1, MAX_SOURCE_BYTES + 1, "badinput long\n", 11),
+    Case(VERIFY_MAY, b"abc", "badinput odd\n", 11),
+    Case(VERIFY_MAY, MAY_PROOF[:6] + b"g" + MAY_PROOF[7:], "badinput at 6\n", 11),
+    Case(VERIFY_MAY, MAX_SOURCE_BYTES + 1, "badinput long\n", 11),
     Case(VERIFY, MAX_SOURCE_BYTES, "badinput at 0\n", 11),
     Case(VERIFY, MAX_SOURCE_BYTES + 1, "badinput long\n", 11),
 ]

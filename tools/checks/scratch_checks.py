@@ -12,13 +12,15 @@ from cases.block_files import OK, block_file, calls, deploys, sets
 from cases.growing_roots import growing_roots
 from cases.log_cases import DONE, SCRATCH_FAULT, frames_of, log_of, upgraded
 from cases.proof_cases import proof_of
+from cases.range_cases import range_of, range_proof_of
 from cases.root_cases import History, Row, block_digests
 from cases.trace_cases import trace_proof_of
+from cases.verifier import text_of
 from checks.disk_calls import CREATE, NEW, TRUNCATE, get, put
 from checks.edge_calls import ERRORS, FRAMES, LINES, goes_on, some_of_each_kind
 from checks.lock_checks import give, running_append
 from checks.log_runs import LOG, SCRATCH, SCRATCH_FOLDER, held_frames, known_lines
-from checks.program_cases import MADE_FROM, RECALL_FILE, RECALL_LOG, RECALL_ROOTS, RECALL_ROWS, S1
+from checks.program_cases import BATCH, MADE_FROM, OF_PART, RECALL_FILE, RECALL_LOG, RECALL_ROOTS, RECALL_ROWS, S1
 from checks.program_runs import take_rights
 
 # The owner alone may open it.
@@ -45,19 +47,28 @@ def earlier_trace(rows, frames, key):
     return trace_proof_of(History(first), block_digests(frames)[0], key, 0, 0).hex() + "\n"
 
 
+def earlier_range(rows, frames, key):
+    """What is told of `range prove KEY 0 0 0`."""
+    first = [row for row in rows if row.block == 0]
+    return range_proof_of(History(first), block_digests(frames)[0], key, 0, 0, 0).hex() + "\n"
+
+
 # The lineage of the first block, of which these proofs are made, has no body at hand: one is read back, the first
 # or another.
 PROVED = {f"prove hist {row.key} 0 0": row for row in RECALL_ROWS if row.block == 0}
 TRACED = {f"trace prove {row.key} 0 0": row for row in RECALL_ROWS if row.block == 0}
-READING_BACK = PROVED | TRACED
+RANGED = {f"range prove {row.key} 0 0 0": row for row in RECALL_ROWS if row.block == 0}
+READING_BACK = PROVED | TRACED | RANGED
 # Runs that use the scratch file: the words, the input, the log before, and what is told.
 RUNS = [
     ("append", RECALL_FILE, None, "".join(LINES)),
     ("append", RECALL_FILE, log_of(FRAMES[0]), "".join(known_lines(1) + LINES[1:])),
     ("upgrade", b"", RECALL_LOG, upgraded(len(FRAMES))),
     (S1.decode(), b"", RECALL_LOG, MADE_FROM),
+    (OF_PART.decode(), b"", RECALL_LOG, BATCH),
     *[(words, b"", RECALL_LOG, earlier_proof(RECALL_ROWS, FRAMES, row.key)) for words, row in PROVED.items()],
     *[(words, b"", RECALL_LOG, earlier_trace(RECALL_ROWS, FRAMES, row.key)) for words, row in TRACED.items()],
+    *[(words, b"", RECALL_LOG, earlier_range(RECALL_ROWS, FRAMES, row.key)) for words, row in RANGED.items()],
 ]
 
 
@@ -187,6 +198,27 @@ def bodies_read_back(checks, watched):
         ran = watched.run(f"prove hist {key} 0 0", log=log)
         wanted = earlier_proof(chain.rows, chain.frames, key), DONE
         checks.same(f"a proof of {key}", (ran.told, ran.status), wanted)
+
+
+# How many of the first versions of a key are asked for, all of whose bodies are in the file alone, and how many of the
+# last ones.
+FIRST_VERSIONS, LAST_VERSIONS = 50, 10
+
+
+def versions_read_back(checks, watched):
+    """Of the versions between two blocks each body is read once, and no other one is."""
+    key = "raw/a"
+    rows = [Row(key, at, 0, TEXT.format(at), []) for at in range(ROWS)]
+    log = log_of(block_file([[sets(row.key, row.value)] for row in rows]))
+    history = History(rows)
+    sizes = [body_size(history, row) for row in rows]
+    for first, last, is_read in [(0, FIRST_VERSIONS - 1, True), (ROWS - LAST_VERSIONS, ROWS - 1, False)]:
+        words = f"range {key} {first} {last}"
+        ran = watched.run(words, log=log, LOG=SCRATCH)
+        checks.same(words, (ran.told, ran.status), (text_of(range_of(rows, key, first, last)), DONE))
+        reads = sorted((call.at, call.size) for call in ran.calls if call.name == "pread")
+        wanted = [(sum(sizes[:at]), sizes[at]) for at in range(first, last + 1) if is_read]
+        checks.same(f"what is read back by {words}", reads, wanted)
 
 
 # ---- where it is made, and what is left of it

@@ -12,7 +12,9 @@ from cases.block_files import calls, deploys, number, sets, string
 from cases.generated_chain import Generated, spelled
 from cases.generated_loads import growing_links, links, load_line
 from cases.growing_roots import growing_roots
-from cases.log_cases import BEYOND, DONE, REFUSED, frames_of, log_of, upgraded
+from cases.log_cases import BEYOND, DONE, REFUSED, REJECTED, frames_of, log_of, upgraded
+from cases.range_cases import body_of, header_of, range_of, range_proof_of, way
+from cases.range_cases import spelled as range_proof
 from cases.root_cases import History, Row, block_digests, roots
 from cases.trace_cases import trace_of, trace_proof_of
 from cases.verifier import text_of
@@ -290,6 +292,44 @@ def trace_runs():
     yield from ancestors_runs(chain_of_sets(net), "raw/7-0")
 
 
+class LongHistory(History):
+    """Rows of a key with many versions, whose links are worked out once."""
+
+    def __init__(self, rows, key):
+        super().__init__(rows)
+        self.linked = growing_links(self.blocks_of(key))
+        for block in self.linked:
+            # So no header waits for many others.
+            self.header_digest(key, block)
+
+    def links(self, key, block):
+        return self.linked[block]
+
+
+def range_runs():
+    """All versions of a key that 600 blocks set, and some of them, and proofs of that: with more headers than a proof
+    of an answer may have. A version is left out behind the first 256 headers."""
+    key, head = "raw/a", 599
+    chain = chain_of_sets([[(key, at, [])] for at in range(head + 1)])
+    history, digest, root = LongHistory(chain.rows, key), block_digests(chain.frames)[head], chain.roots[head]
+    for first, last in [(0, head), (100, 500), (head - 9, head), (300, 300)]:
+        told = text_of(range_of(chain.rows, key, first, last))
+        proof = range_proof_of(history, digest, key, first, last, head).hex() + "\n"
+        yield run(f"range {key} {first} {last}".encode(), None, told, log=chain.log)
+        yield run(f"range prove {key} {first} {last} {head}".encode(), None, proof, log=chain.log)
+        yield run(f"range verify {root} {key} {first} {last}".encode(), proof.encode(), told)
+    blocks = way(history, key, 0, head, head)
+    step, verify = 300, f"range verify {root} {key} 0 {head}".encode()
+    left = blocks[:step] + blocks[step + 1 :]
+    parts = [[part(history, key, block) for block in left] for part in (header_of, body_of)]
+    proof = range_proof(history, digest, (key, 0, head), head, key, *parts).hex().encode()
+    link = history.header_digest(key, blocks[step + 1]).hex()
+    yield run(verify, proof, f"rejected link {step} {link}\n", REJECTED)
+    parts = [[part(history, key, block) for block in blocks[:step]] for part in (header_of, body_of)]
+    proof = range_proof(history, digest, (key, 0, head), head, key, *parts).hex().encode()
+    yield run(verify, proof, f"rejected path {step}\n", REJECTED)
+
+
 # ---- limits of a transaction, in a block and in a draft
 
 
@@ -388,7 +428,7 @@ def sum_runs():
 def size_runs():
     """All runs."""
     for part in [
-        generated_runs, level_runs, full_runs, txs_runs, long_block_runs, uses_runs, trace_runs, limit_runs,
-        deps_runs, args_runs, sum_runs,
+        generated_runs, level_runs, full_runs, txs_runs, long_block_runs, uses_runs, trace_runs, range_runs,
+        limit_runs, deps_runs, args_runs, sum_runs,
     ]:
         yield from part()

@@ -9,7 +9,8 @@ from cases.log_cases import (
     log_of,
 )
 from checks.program_cases import (
-    BANK, DRAFT, EXPOSE, MARKED_LOG, PROVE_S1, RAW_A_PROOF, RECALL_FILE, RECALL_LOG, S1, S1_PROOF, VERIFY, VERIFY_S1,
+    BANK, DRAFT, EXPOSE, MARKED_LOG, MAY, MAY_PROOF, PROVE_MAY, PROVE_S1, RAW_A_PROOF, RECALL_FILE, RECALL_LOG, S1,
+    S1_PROOF, SHELF_LOG, VERIFY, VERIFY_MAY, VERIFY_S1,
 )
 from checks.program_runs import TOP
 
@@ -92,6 +93,16 @@ OTHERS = [
     Command(VERIFY_S1.decode(), S1_PROOF),
     Command(VERIFY_S1.decode().replace("s1", "s2"), S1_PROOF, status=REJECTED),
     Command(VERIFY_S1.decode(), b"zz", status=BAD_INPUT),
+    Command(MAY.decode(), log=SHELF_LOG),
+    Command("range bank/n 0 3", log=BANK_LOG),
+    Command("range raw/lot/l9 0 2", log=RECALL_LOG),
+    Command(MAY.decode(), log=SET_LOG, status=BEYOND),
+    Command("range raw/a 1 0", log=SET_LOG, status=USAGE),
+    Command(PROVE_MAY.decode(), log=SHELF_LOG),
+    Command("range prove bank/n 0 3 3", log=BANK_LOG),
+    Command(VERIFY_MAY.decode(), MAY_PROOF),
+    Command(VERIFY_MAY.decode().replace("s7", "s8"), MAY_PROOF, status=REJECTED),
+    Command(VERIFY_MAY.decode(), b"zz", status=BAD_INPUT),
     Command("fmt", read(f"{TOP}/examples/shop.contract")),
     Command("fmt 2", read(f"{TOP}/examples/lot.contract")),
     Command("fmt", b"fn f() { a = 1; }", status=BAD_INPUT),

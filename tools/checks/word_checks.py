@@ -29,7 +29,8 @@ from cases.block_files import (
 )
 from cases.log_cases import CLOSED, CLOSED_HEAD, HEAD, OPEN, SET_FILE, SET_LOG
 from checks.log_runs import LOG
-from checks.program_cases import PROVE_S1, RAW_A_PROOF, RAW_A_ROOT, RECALL_FILE, RECALL_LOG, RECALL_ROOTS
+from checks.program_cases import MAY_PROOF, PROVE_S1, RAW_A_PROOF, RAW_A_ROOT, RECALL_FILE, RECALL_LOG, RECALL_ROOTS
+from checks.program_cases import SHELF_ROOT
 from lineage.statuses import BAD_INPUT, DAMAGED, DISK_FAULT, DONE, NOT_A_LOG, REJECTED, UNTOLD
 from lineage.told_statuses import STATUSES
 from places import TOP
@@ -331,7 +332,7 @@ def verifier_words(checks, wrapper):
     streams = {"capture_output": True, "timeout": RUN_LIMIT}
     ran = subprocess.run([*verifier, "--help"], **streams)
     checks.same("the status of its help", (ran.returncode, ran.stderr), (DONE, b""))
-    for form in (b"ROOT KIND KEY BLOCK", b"trace ROOT KEY BLOCK"):
+    for form in (b"ROOT KIND KEY BLOCK", b"trace ROOT KEY BLOCK", b"range ROOT KEY FROM TO"):
         checks.holds(f"its help has the words {form}", b"verify.py " + form + b" < PROOF" in ran.stdout)
     words = [RAW_A_ROOT, "fwd", "raw/a", "0"]
     ran = subprocess.run([*verifier, *words], input=RAW_A_PROOF, **streams)
@@ -356,6 +357,14 @@ def verifier_words(checks, wrapper):
             checks.same(f"the first line of {question}", lines[0], f"question {question}")
             for line in [*shown, f"leads to the root {RECALL_ROOTS[2]}"]:
                 checks.holds(f"what is shown of {question} has {line!r}", line in lines)
+    ran = subprocess.run([*verifier, "--show"], input=MAY_PROOF, **streams)
+    checks.same("the status where a proof of a range is shown", (ran.returncode, ran.stderr), (DONE, b""))
+    for line in SHOWN_OF_RANGE:
+        checks.holds(f"what is shown of a range has {line!r}", line in ran.stdout.decode().split("\n"))
+    ran = subprocess.run([*verifier, "range", SHELF_ROOT, "shelf/s7", "31", "60"], input=MAY_PROOF, **streams)
+    checks.same("what is printed of another range", (ran.stdout, ran.returncode), (b"rejected query\n", REJECTED))
+    said = b"verify.py: the proof is of another question: range shelf/s7 31 61\n"
+    checks.same("what is said of it", ran.stderr, said)
 
 
 # Questions about the recall log, and lines that are shown of their proofs under the root of its last block.
@@ -385,6 +394,17 @@ SHOWN_OF_TRACE = [
     "item 2: raw/part/p1 0",
     "body: text batch 17, derived from 0 versions",
     "nothing of this was checked: verify.py trace ROOT raw/shop/s1 2 does that",
+]
+# The same of the proof of the stock of a month. The first two headers lead to its last block.
+SHOWN_OF_RANGE = [
+    "question range shelf/s7 31 61",
+    "leaf 1 of 3, from 0: key shelf/s7, next key shelf/s8",
+    "block 61 body: int 18, derived from 1 versions",
+    "block 44 body: int 0, derived from 1 versions",
+    "  shelf/s7 38",
+    "block 33 body: int 22, derived from 1 versions",
+    f"leads to the root {SHELF_ROOT}",
+    "nothing of this was checked: verify.py range ROOT shelf/s7 31 61 does that",
 ]
 
 

@@ -19,7 +19,8 @@ from cases.log_cases import CLOSED, CLOSED_HEAD, HEAD, NOT_A_LOG, OPEN, REFUSED,
 from checks import build_checks, disk_calls, page_runs, word_checks
 from checks.log_runs import LOG
 from checks.program_cases import (
-    CASES, LOT, PART, RAW_A_PROOF, RAW_A_ROOT, RECALL_FILE, RECALL_LOG, S1_PROOF, VERIFY_S1, s1_proof,
+    CASES, LOT, MAY_PROOF, PART, RAW_A_PROOF, RAW_A_ROOT, RECALL_FILE, RECALL_LOG, S1_PROOF, SHELF_LOG, SWAPPED,
+    VERIFY_MAY, VERIFY_S1, WITHOUT_33, WITHOUT_44, s1_proof,
 )
 from checks.program_runs import TOP, check_case, take_rights
 from lineage import commands, lineage_input, lineage_messages, statuses
@@ -53,6 +54,7 @@ MARKED_LOG, MARKED_HEAD = SET_LOG[:-1] + MARK, HEAD + MARK
 BOTH_LOG = MARKED_LOG[:-1] + OPEN + AFTER_SET + CLOSED
 FIRST_AFTER_BOTH = block_frame(FIRST_VERSION, 2, block_digest(AFTER_SET[4:]), [])
 TRACE_VERIFY = VERIFY_S1.decode()
+RANGE_VERIFY = VERIFY_MAY.decode()
 # Words, input, log before, and a part of what is said.
 SAID = [
     ("", b"", None, "the commands are"),
@@ -148,6 +150,29 @@ SAID = [
     (TRACE_VERIFY, b"abc", None, "the number of digits is odd"),
     (TRACE_VERIFY, SET_FILE, None, "looks like a block file"),
     ("append", S1_PROOF, None, "looks like a proof of ancestors in hex"),
+    ("range raw/a 0", b"", None, "`range KEY FROM TO` or `range prove KEY FROM TO ROOTBLOCK`"),
+    ("range raw/a 0 00", b"", None, "word 4, `00`, is not TO"),
+    ("range raw/a 1 0", b"", None, "FROM, `1`, is past TO, `0`"),
+    ("range prove raw/a 1 0 0", b"", None, "FROM, `1`, is past TO, `0`"),
+    ("range back raw/a 0 0 0", b"", None, "word 2, `back`, is not `prove` or `verify`"),
+    ("range prove raw/a 0 0 00", b"", None, "word 6, `00`, is not ROOTBLOCK"),
+    ("range verify raw/a 0 0 0", b"", None, "word 3, `raw/a`, is not ROOT"),
+    ("range raw/a 0 0", b"", None, f"has no {LOG}"),
+    ("range raw/a 0 1", b"", SET_LOG, "the chain ends before it"),
+    ("range prove raw/a 0 1 0", b"", SET_LOG, "TO is past ROOTBLOCK"),
+    ("range prove shelf/s7 31 61 66", b"", SHELF_LOG, "the chain ends before it"),
+    (RANGE_VERIFY, b"", None, "the first invalid field is at offset 0"),
+    (RANGE_VERIFY, RAW_A_PROOF, None, "looks like a proof in hex: `./lineage verify ROOT"),
+    (TRACE_VERIFY, MAY_PROOF, None, "looks like a proof of a range in hex"),
+    (RANGE_VERIFY.replace("s7", "s8"), MAY_PROOF, None, "of another question: range shelf/s7 31 61\n"),
+    (RANGE_VERIFY[:-2] + "62", MAY_PROOF.upper(), None, "of another question: range shelf/s7 31 61\n"),
+    (RANGE_VERIFY.replace(" 6714", " 6715"), MAY_PROOF, None, "to another root, 6714"),
+    (RANGE_VERIFY, WITHOUT_33, None, "a header of the proof is missing"),
+    (RANGE_VERIFY, WITHOUT_44, None, "a header of the proof has another digest"),
+    (RANGE_VERIFY, SWAPPED, None, "body 0, from 0, of the proof has another digest"),
+    (RANGE_VERIFY, b"abc", None, "the number of digits is odd"),
+    (RANGE_VERIFY, SET_FILE, None, "looks like a block file"),
+    ("append", MAY_PROOF, None, "looks like a proof of a range in hex"),
     ("hist raw/a", b"", b"hello", "something else than a log"),
     ("hist raw/a", b"", SET_LOG[:40], "was changed or cut"),
     ("scan hist raw/a 0", SET_LOG, None, "looks like a log: ask `hist`"),
@@ -427,6 +452,7 @@ def zeroed_log(checks, wrapper):
 
 # What stands for the words in capitals of a form.
 FOR_WORDS = {"KEY": "raw/a", "BLOCK": "0", "N": "1", "SEED": "0", "ROOT": RAW_A_ROOT, "ROOTBLOCK": "0"}
+FOR_WORDS |= {"FROM": "0", "TO": "0"}
 
 
 def listed_commands(checks, program):

@@ -23,12 +23,15 @@ MAX_NUMBER = 4_294_967_295
 MAX_GENERATED_BLOCKS = 100_000
 EXAMPLE_ROOT = "41f6c6fc6bc756e479b796f7f09689670bee66ffad0189a20e5bf0574966869d"
 RECALL_ROOT = "c36b6bfd2dd652a721e6abe9223333c610a5b04e058325b35cf29fcea0a765ab"
+SHELF_ROOT = "67147f39e21239af7893de4772fd8c78606b074c5db50b70c793a08bed895c83"
 DECIMAL = "0|[1-9][0-9]{0,9}"
 WORDS = {
     "KIND": ("hist, back or fwd", "hist|back|fwd"),
     "KEY": ("a key, which has 1 to 64 of a-z 0-9 . / _ -", "[a-z0-9./_-]{1,64}"),
     "BLOCK": ("a number from 0 to 4294967295, in digits without a leading zero", DECIMAL),
     "ROOTBLOCK": ("a number from 0 to 4294967295, in digits without a leading zero", DECIMAL),
+    "FROM": ("a number from 0 to TO, in digits without a leading zero", DECIMAL),
+    "TO": ("a number from 0 to 4294967295, in digits without a leading zero", DECIMAL),
     "ROOT": ("a root, which is 64 of 0-9 a-f", "[0-9a-f]{64}"),
     "N": ("a number from 1 to 100000, in digits without a leading zero", DECIMAL),
     "SEED": ("a number from 0 to 4294967295, in digits without a leading zero", DECIMAL),
@@ -36,6 +39,8 @@ WORDS = {
 RANGES = {
     "BLOCK": (0, MAX_NUMBER),
     "ROOTBLOCK": (0, MAX_NUMBER),
+    "FROM": (0, MAX_NUMBER),
+    "TO": (0, MAX_NUMBER),
     "N": (1, MAX_GENERATED_BLOCKS),
     "SEED": (0, MAX_NUMBER),
 }
@@ -57,10 +62,11 @@ class Command:
         # Whether it writes to the log, and so locks it.
         self.changes_log = uses.get("changes_log", False)
         self.uses_scratch = uses.get("uses_scratch", False)
-        self.checks_proof = self.input in (PROOF, TRACE_PROOF)
-        self.asks_for_block = "BLOCK" in form and (self.takes_frames or self.uses_log)
+        self.checks_proof = self.input in (PROOF, TRACE_PROOF, RANGE_PROOF)
+        is_of_block = "BLOCK" in form or form.endswith(" TO")
+        self.asks_for_block = is_of_block and (self.takes_frames or self.uses_log)
         # Whether it asks about a block by the root at another one, which must not come before it.
-        self.asks_by_root = form.endswith(" BLOCK ROOTBLOCK")
+        self.asks_by_root = form.endswith((" BLOCK ROOTBLOCK", " TO ROOTBLOCK"))
 
     def forms(self):
         """Its words, as lists: with what may be left out, and without."""
@@ -87,8 +93,10 @@ class Command:
 BLOCKS = "a block file"
 PROOF = "a proof in hex digits"
 TRACE_PROOF = "a proof of ancestors in hex digits"
+RANGE_PROOF = "a proof of a range in hex digits"
 BAD_FRAME = ("refused frame I CAUSE", "the frame with number I of the input, from 0, is refused")
 NO_BLOCK = ("beyond empty, beyond head H", "there is no block, or BLOCK is past the last one, H")
+NO_LAST_BLOCK = ("beyond empty, beyond head H", "there is no block, or TO is past the last one, H")
 NO_LOG = ("not a log, damaged at P", "what the bytes of chain.log are, at the offset P")
 ANSWERS = [
     ("none", "there is no version of KEY up to BLOCK"),
@@ -102,6 +110,10 @@ ANSWERS = [
 ANCESTORS = [
     ANSWERS[0],
     ("block B ancestors N", "the version's block, and N lines KEY BLOCK, all that it was made from"),
+]
+VERSIONS = [
+    ("versions N", "N versions, whose lines follow, the oldest first"),
+    ("block B tx T int V, block B tx T text V, block B tx T gone", "a version, as `hist` prints it"),
 ]
 BAD_PROOF = [
     ("rejected CAUSE", "the first check of the proof that fails, and what it reports"),
@@ -211,6 +223,29 @@ COMMANDS = [
         [*ANCESTORS, *BAD_PROOF],
         f"./lineage trace verify {RECALL_ROOT} raw/shop/s1 2 < examples/shop-s1.proof",
         input=TRACE_PROOF,
+    ),
+    Command(
+        "range KEY FROM TO",
+        "all versions of KEY, FROM to TO, by chain.log",
+        [*VERSIONS, NO_LAST_BLOCK, NO_LOG],
+        "./lineage range raw/part/p1 0 2",
+        uses_log=True,
+        uses_scratch=True,
+    ),
+    Command(
+        "range prove KEY FROM TO ROOTBLOCK",
+        "a proof of that, for one who has the root at ROOTBLOCK",
+        [("hex digits", "the bytes of the proof"), NO_LAST_BLOCK, NO_LOG],
+        "./lineage range prove raw/part/p1 0 2 2 > p1.proof",
+        uses_log=True,
+        uses_scratch=True,
+    ),
+    Command(
+        "range verify ROOT KEY FROM TO",
+        "all versions of KEY, FROM to TO, by a proof and ROOT",
+        [*VERSIONS, *BAD_PROOF],
+        f"./lineage range verify {SHELF_ROOT} shelf/s7 31 61 < examples/shelf-s7.proof",
+        input=RANGE_PROOF,
     ),
     Command(
         "fmt [2]",
@@ -345,4 +380,7 @@ def what_is_wrong(words):
             own = " or ".join(f"`{form_of(each, words)[number - 1]}`" for each in with_form(words))
             wanted = f"{name}: {WORDS[name][0]}" if name in WORDS else own
             return f"word {number}, `{word}`, is not {wanted}"
+    given = dict(zip(form_of(command, words), words))
+    if "FROM" in given and int(given["FROM"]) > int(given["TO"]):
+        return f"FROM, `{given['FROM']}`, is past TO, `{given['TO']}`"
     return None

@@ -7,9 +7,10 @@ MAX_BLOCK_BYTES = 1_048_576
 MAGIC_OF_LOG = b"LCLOG1\n"
 MAGIC_OF_PROOF = b"LCP1"
 MAGIC_OF_TRACE = b"LCT1"
+MAGIC_OF_RANGE = b"LCR1"
 # The versions of blocks, which stand in the first byte of each.
 FIRST_VERSION, SECOND_VERSION = VERSIONS = 1, 2
-LOG, DRAFT, PROOF, TRACE, BYTES_OF_PROOF, BLOCK_FILE, CONTRACT = range(7)
+LOG, DRAFT, PROOF, TRACE, RANGE, BYTES_OF_PROOF, BLOCK_FILE, CONTRACT = range(8)
 # What each is, and what to do with it.
 WHAT_TO_DO = {
     LOG: (
@@ -20,6 +21,7 @@ WHAT_TO_DO = {
     DRAFT: ("a draft, which is JSON", "pack it first, ./lineage pack < DRAFT > BLOCKS"),
     PROOF: ("a proof in hex", "`./lineage verify ROOT KIND KEY BLOCK` reads it"),
     TRACE: ("a proof of ancestors in hex", "`./lineage trace verify ROOT KEY BLOCK` reads it"),
+    RANGE: ("a proof of a range in hex", "`./lineage range verify ROOT KEY FROM TO` reads it"),
     BYTES_OF_PROOF: ("the bytes of a proof", "a proof is read in hex: xxd -p < PROOF | tr -d '\\n'"),
     BLOCK_FILE: ("a block file", "`./lineage append` and `./lineage scan KIND KEY BLOCK` read it"),
     CONTRACT: ("a contract", "`./lineage fmt` reads it; to deploy it, name it in a draft, and pack that"),
@@ -31,6 +33,7 @@ READS = {
     "verify": PROOF,
     "expose": PROOF,
     "trace": TRACE,
+    "range": RANGE,
     "fmt": CONTRACT,
     "pack": DRAFT,
 }
@@ -41,12 +44,11 @@ def kind_of(first):
     length = int.from_bytes(first[:4], "big")
     if first[1:].startswith(MAGIC_OF_LOG):
         return LOG
-    if first.startswith((MAGIC_OF_PROOF, MAGIC_OF_TRACE)):
-        return BYTES_OF_PROOF
-    if first.startswith(MAGIC_OF_PROOF.hex().encode()):
-        return PROOF
-    if first.startswith(MAGIC_OF_TRACE.hex().encode()):
-        return TRACE
+    for magic, kind in [(MAGIC_OF_PROOF, PROOF), (MAGIC_OF_TRACE, TRACE), (MAGIC_OF_RANGE, RANGE)]:
+        if first.startswith(magic):
+            return BYTES_OF_PROOF
+        if first.startswith(magic.hex().encode()):
+            return kind
     if 1 <= length <= MAX_BLOCK_BYTES and len(first) > 4 and first[4] in VERSIONS:
         return BLOCK_FILE
     if re.match(rb"\s*[\[{]", first):

@@ -93,10 +93,14 @@ REJECTED_TRACE = {
     "body": "the body of item {} has another digest than its header names",
     "missing": "an item {} is missing: what others were derived from has not come",
 }
-# Where the key of the question begins in a proof, after the magic, the kind and its length; how many bytes a question
-# and these take at most; and what stands before that in a proof of ancestors, the magic of that and a length.
+# The same of a proof of a range, which has several bodies, by the number of the one at fault.
+REJECTED_BODY = "body {}, from 0, of the proof has another digest than its header names"
+# Where the key of the question begins in a proof, after the magic, the kind and its length, and in one of a range, that
+# has no kind; how many bytes a question and these take at most; and what stands before that in a proof of ancestors,
+# the magic of that and a length.
 QUESTION_FRONT = 7
-MAX_QUESTION_BYTES = QUESTION_FRONT + 64 + 4
+RANGE_FRONT = 6
+MAX_QUESTION_BYTES = QUESTION_FRONT + 64 + 8
 TRACE_FRONT = 8
 NOT_ACCEPTED = "the proof is not accepted; docs/proofs.md has the checks"
 HEX_FAULTS = {
@@ -159,7 +163,7 @@ def beyond_sentence(words):
     if command and command.uses_log and not any(log_frames()):
         return f"{LOG_FILE} has no block yet"
     if command and command.asks_by_root and int(words[-2]) > int(words[-1]):
-        return "BLOCK is past ROOTBLOCK, and a root says nothing of later blocks"
+        return f"{command.form.split()[-2]} is past ROOTBLOCK, and a root says nothing of later blocks"
     return "there is no such block: the chain ends before it"
 
 
@@ -393,6 +397,9 @@ def rejected_sentence(program, words, start):
     of_item = re.match(r"rejected trace (\w+) (\d+)", line)
     if of_item and of_item[1] in REJECTED_TRACE:
         return f"{NOT_ACCEPTED}: {REJECTED_TRACE[of_item[1]].format(of_item[2])}"
+    of_body = re.match(r"rejected body (\d+) ", line)
+    if of_body:
+        return f"{NOT_ACCEPTED}: {REJECTED_BODY.format(of_body[1])}"
     rejected = re.match(r"rejected (\w+) ?(\w*)", line)
     if not rejected or rejected[1] not in REJECTED:
         return NOT_ACCEPTED
@@ -411,10 +418,16 @@ def question_of(start):
         proof = bytes.fromhex(digits)
         if proof.startswith(kinds.MAGIC_OF_TRACE):
             proof = proof[TRACE_FRONT:]
-        end = QUESTION_FRONT + int.from_bytes(proof[QUESTION_FRONT - 2 : QUESTION_FRONT], "big")
-        key, block = proof[QUESTION_FRONT:end].decode("ascii"), int.from_bytes(proof[end : end + 4], "big")
-        return f": {commands.KINDS[proof[4]]} {key} {block}"
+        is_range = proof.startswith(kinds.MAGIC_OF_RANGE)
+        front = RANGE_FRONT if is_range else QUESTION_FRONT
+        end = front + int.from_bytes(proof[front - 2 : front], "big")
+        key, block, last = proof[front:end].decode("ascii"), number_at(proof, end), number_at(proof, end + 4)
+        return f": range {key} {block} {last}" if is_range else f": {commands.KINDS[proof[4]]} {key} {block}"
     return ""
+
+
+def number_at(proof, offset):
+    return int.from_bytes(proof[offset : offset + 4], "big")
 
 
 def hex_sentence(printed):

@@ -18,7 +18,13 @@ at_is kept blocks (Some at) stands = refl
 -- if no block is named, the question is about the last one
 pub last_asked : {E : Type 0} (told : Result Outcome E) (kept : ChainState) (kind : Kind)
     (key : List ℕ) (at : Option ℕ) (asked : ℕ) → asked ≡ unwrap_or at (length kept.digests - 1)
-    → IfOk told (λ outcome. (blocks : List Block) → StandsFor kept blocks → outcome ≡ answer_outcome compiled_in (record { kind = kind; key = key; at = asked }) blocks)
-    → IfOk told (λ outcome. (blocks : List Block) → StandsFor kept blocks → outcome ≡ answer_outcome compiled_in (record { kind = kind; key = key; at = at_or_last at blocks }) blocks)
-last_asked (Ok outcome) kept kind key at asked is answers = λ blocks stands. answers blocks stands ∙ ap (λ (n : ℕ). answer_outcome compiled_in (record { kind = kind; key = key; at = n }) blocks) (is ∙ at_is kept blocks at stands)
+    → IfOk told (λ outcome. (blocks : List Block) → StandsFor kept blocks
+    → outcome ≡ answer_outcome compiled_in (record { kind = kind; key = key; at = asked }) blocks)
+    → IfOk told (λ outcome. (blocks : List Block) → StandsFor kept blocks
+    → outcome
+    ≡ answer_outcome compiled_in (record { kind = kind; key = key; at = at_or_last at blocks }) blocks)
+last_asked (Ok outcome) kept kind key at asked is answers = λ blocks stands.
+    answers blocks stands
+    ∙ ap (λ (n : ℕ). answer_outcome compiled_in (record { kind = kind; key = key; at = n }) blocks)
+    (is ∙ at_is kept blocks at stands)
 last_asked (Err e) kept kind key at asked is answers = tt

@@ -1,7 +1,7 @@
 -- Each command ends only with statuses that it may end with.
-use Rattle.std.proofs.Common.{◌≡◌, inl, inr, true, false, List, ℕ, [], Option, Some, None}
-use Rattle.std.proofs.Common.{Result, Ok, Err, refl, sym, ◌∙◌, subst}
-use Rattle.std.specs.Prelude.{◌⊎◌, IfOk}
+use Rattle.std.proofs.Common.{◌≡◌, ◌≤◌, inl, inr, true, false, List, ℕ, [], Option, Some, None}
+use Rattle.std.proofs.Common.{Result, Ok, Err, refl, sym, ap, ◌∙◌, subst}
+use Rattle.std.specs.Prelude.{◌⊎◌, ◌||◌, IfOk}
 use Rattle.lc_io.specs.Disk.{DiskState}
 use Rattle.lc_io.specs.Outside.{Tell}
 use Rattle.contract_tree.specs.Tree.{FunctionTree}
@@ -21,6 +21,7 @@ use Rattle.cli_words.specs.declared.words.Command.TheVariants.{Scan, Fmt, Pack, 
 use Rattle.cli_words.specs.declared.words.Command.TheVariants.{Upgrade}
 use Rattle.cli_words.specs.declared.words.Command.TheVariants.{Root, Ask, Prove, Verify, Expose}
 use Rattle.cli_words.specs.declared.words.Command.TheVariants.{Trace, ProveTrace, VerifyTrace}
+use Rattle.cli_words.specs.declared.words.Command.TheVariants.{Range, ProveRange, VerifyRange}
 use Rattle.cli_append.specs.cli_lines.Outcome.{status_of}
 use Rattle.cli_append.specs.cli_lines.declared.outcome.Outcome.{Outcome}
 use Rattle.cli_append.specs.cli_lines.declared.outcome.Ending.{Ending}
@@ -30,13 +31,16 @@ use Rattle.cli_append.specs.cli_lines.declared.status.Status.TheVariants as stat
 use Rattle.cli_output.specs.Blocks.{draft_outcome}
 use Rattle.cli_output.specs.Output.{Output, output_of, edition_number, fmt_outcome}
 use Rattle.cli_output.specs.Output.{source_outcome, IsFmtOutput, Long, Source}
-use Rattle.cli_output.specs.Uses.{reads_input, uses_disk, uses_scratch, changes_log}
+use Rattle.cli_output.specs.Uses.{reads_input, uses_disk, uses_scratch, changes_log, use_of}
+use Rattle.cli_output.specs.Uses.{ChainUse, LogLineage, is_asked, is_log_asked, is_log_changed}
+use Rattle.cli_output.specs.Uses.{keeps_bodies}
 use Rattle.cli_output.specs.Running.{MayEnd, IsSilent, found_no_log}
+use Rattle.cli_output.specs.Scanning.{EndsAsked}
 use Rattle.cli_output.specs.Telling.{status_of_result, status_of_stop, status_of_found}
 use Rattle.cli_output.specs.Telling.{OnlyReads, OnlyTells, append_answer, upgrade_answer, Tells}
 use Rattle.cli_output.specs.declared.stop.OutcomeStop.{OutcomeStop}
 use Rattle.cli_output.specs.declared.stop.OutcomeStop.TheVariants as outcomes
-use Rattle.cli_output.proofs.Ends.{may_end}
+use Rattle.cli_output.proofs.Ends.{may_end, asked_ends}
 use Rattle.cli_append.specs.recovery.Node.{next_in_chain}
 use Rattle.cli_append.specs.declared.ending.RunStop.TheVariants as stops
 
@@ -193,6 +197,9 @@ changed_by (Expose root query root_at) = inl refl
 changed_by (Trace key at) = inl refl
 changed_by (ProveTrace key at root_at) = inl refl
 changed_by (VerifyTrace root key at) = inl refl
+changed_by (Range key from to) = inl refl
+changed_by (ProveRange key from to root_at) = inl refl
+changed_by (VerifyRange root key from to) = inl refl
 
 pub others_keep : (command : Command) → (command ≡ Append → ⊥) → (command ≡ Upgrade → ⊥)
     → changes_log (Some command) ≡ false
@@ -237,6 +244,30 @@ pub of_given : (status : Status) (command given : Command) → command ≡ given
     → MayEnd status (Some given) → MayEnd status (Some command)
 of_given status command given is ends = subst (λ (c : Command). MayEnd status (Some c)) (sym is)
     ends
+
+-- a question over the lineage of the log, which reads no input
+pub lineage_ends : (found : Result Outcome OutcomeStop) (command given : Command)
+    → command ≡ given → (use_of (Some given)).chain ≡ LogLineage
+    → IfOk found (λ outcome. EndsAsked outcome.ending) → (found ≡ Err outcomes.Unreadable → ⊥)
+    → MayEnd (status_of_found found) (Some command)
+lineage_ends found command given is uses ends reads =
+    let disk : uses_disk (Some given) ≡ true =
+    ap (λ (chain : ChainUse). is_log_asked chain || is_log_changed chain) uses in
+    of_given (status_of_found found) command given is
+    (may_end found (Some given) (asked_ends found (Some given) (ap is_asked uses) ends)
+    (λ e. absurd (reads e)) (λ e. disk) (λ e. ap keeps_bodies uses))
+
+-- the first block of a range that words can spell isn't after the last one
+pub in_order : (command : Command) (key : List ℕ) (from to : ℕ) → command ≡ Range key from to
+    → CanBeGiven command → from ≤ to
+in_order command key from to is given =
+    let can : CanBeGiven (Range key from to) = subst CanBeGiven is given in can.1.in_order
+
+pub proved_in_order : (command : Command) (key : List ℕ) (from to root_at : ℕ)
+    → command ≡ ProveRange key from to root_at → CanBeGiven command → from ≤ to
+proved_in_order command key from to root_at is given =
+    let can : CanBeGiven (ProveRange key from to root_at) = subst CanBeGiven is given in
+    can.1.in_order
 
 -- a command that found no log uses the disk
 no_log_uses : (status : Status) (command : Option Command) → found_no_log status ≡ true

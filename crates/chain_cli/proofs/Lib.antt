@@ -9,3 +9,4 @@ pub mod Ends
 pub mod Moments
 pub mod Held
 pub mod HeldTraces
+pub mod HeldRanges

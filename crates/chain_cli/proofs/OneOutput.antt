@@ -45,6 +45,12 @@ use Rattle.cli_output.specs.Traces.{trace_verification_outcome}
 use Rattle.trace_commands.specs.Verifying.{trace_verification}
 use Rattle.trace_commands.specs.declared.verification.TraceVerification.{TraceVerification}
 use Rattle.trace_commands.proofs.Traced.{is_trace_verification, one_told}
+use Rattle.cli_output.specs.Output.{range_output, prove_range_output, IsVerifyRangeOutput}
+use Rattle.cli_output.specs.Output.{LongRange, VerifiedRange}
+use Rattle.cli_output.specs.Ranges.{range_verification_outcome}
+use Rattle.range_commands.specs.Verifying.{range_verification}
+use Rattle.range_commands.specs.declared.verification.RangeVerification.{RangeVerification}
+use Rattle.range_commands.proofs.Ranged.{is_range_verification, one_range_told}
 use Rattle.cli_output.specs.Output.{edition_number, source_outcome, IsFmtOutput, Long, Source, IsVerifyOutput}
 use Rattle.cli_output.specs.Output.{LongProof, Verified, IsExposeOutput, IsOnLog, Wants, IsWanted}
 use Rattle.cli_output.specs.Output.{IsOneOutput}
@@ -55,6 +61,7 @@ use Rattle.cli_words.specs.declared.words.Command.{Command}
 use Rattle.cli_words.specs.declared.words.Command.TheVariants.{Scan, Fmt, Pack, Gen, Load, Append, Upgrade}
 use Rattle.cli_words.specs.declared.words.Command.TheVariants.{Root, Ask, Prove, Verify, Expose}
 use Rattle.cli_words.specs.declared.words.Command.TheVariants.{Trace, ProveTrace, VerifyTrace}
+use Rattle.cli_words.specs.declared.words.Command.TheVariants.{Range, ProveRange, VerifyRange}
 
 -- ---- the fold, by two decoders that are right
 
@@ -153,6 +160,27 @@ some_verify_trace root key at input =
           )
     ]
 
+some_verify_range : (root key : List ℕ) (from to : ℕ) (input : List ℕ)
+    → (output : Output) × IsVerifyRangeOutput root key from to input output
+some_verify_range root key from to input =
+    elim (cases_lt MAX_WHOLE_INPUT_BYTES (length input)) [
+      | inl long ↦ (long_output input, LongRange long)
+      | inr fits ↦
+          let told = range_verification root key from to input in (
+            output_of (range_verification_outcome told) [],
+            VerifiedRange fits told (is_range_verification root key from to input),
+          )
+    ]
+
+-- the output of a question over the blocks of the log, by a decoder and a compiler
+abbrev asked_by : Decoder → Compiler → (Compiler → List Block → Output) → List ℕ → List ℕ → Output
+asked_by read compile wanted input content = on_log (λ logged. wanted compile logged.blocks) input
+    (standing (next_by read compile) content)
+
+-- the same by those of the program
+abbrev asked : (Compiler → List Block → Output) → List ℕ → List ℕ → Output
+asked wanted input content = asked_by block_in compiled_in wanted input content
+
 -- a command, or words that are none, has an output
 pub some_output : (command : Option Command) (input content : List ℕ)
     → (output : Output) × Wants block_in compiled_in command input content output
@@ -164,21 +192,24 @@ some_output (Some (Gen generation)) input content = (gen_output generation input
 some_output (Some (Load generation)) input content = (load_output compiled_in generation input, refl)
 some_output (Some Append) input content = (on_log (append_to block_in compiled_in input) input (standing (next_by block_in compiled_in) content), refl)
 some_output (Some Upgrade) input content = (on_log (upgrade_output input) input (standing (next_by block_in compiled_in) content), refl)
-some_output (Some (Root at)) input content = (on_log (λ logged. root_output compiled_in at input logged.blocks) input (standing (next_by block_in compiled_in) content), refl)
-some_output (Some (Ask kind key at)) input content = (on_log (λ logged. ask_output compiled_in kind key at input logged.blocks) input (standing (next_by block_in compiled_in) content), refl)
-some_output (Some (Prove query root_at)) input content = (on_log (λ logged. prove_output compiled_in query root_at input logged.blocks) input (standing (next_by block_in compiled_in) content), refl)
+some_output (Some (Root at)) input content =
+    (asked (λ c blocks. root_output c at input blocks) input content, refl)
+some_output (Some (Ask kind key at)) input content =
+    (asked (λ c blocks. ask_output c kind key at input blocks) input content, refl)
+some_output (Some (Prove query root_at)) input content =
+    (asked (λ c blocks. prove_output c query root_at input blocks) input content, refl)
 some_output (Some (Verify root query)) input content = some_verify root.0 query input
-some_output (Some (Trace key at)) input content = (
-  on_log (λ logged. trace_output compiled_in key at input logged.blocks) input
-      (standing (next_by block_in compiled_in) content),
-  refl,
-)
-some_output (Some (ProveTrace key at root_at)) input content = (
-  on_log (λ logged. prove_trace_output compiled_in key at root_at input logged.blocks) input
-      (standing (next_by block_in compiled_in) content),
-  refl,
-)
+some_output (Some (Trace key at)) input content =
+    (asked (λ c blocks. trace_output c key at input blocks) input content, refl)
+some_output (Some (ProveTrace key at root_at)) input content =
+    (asked (λ c blocks. prove_trace_output c key at root_at input blocks) input content, refl)
 some_output (Some (VerifyTrace root key at)) input content = some_verify_trace root.0 key at input
+some_output (Some (Range key from to)) input content =
+    (asked (λ c blocks. range_output c key from to input blocks) input content, refl)
+some_output (Some (ProveRange key from to root_at)) input content =
+    (asked (λ c blocks. prove_range_output c key from to root_at input blocks) input content, refl)
+some_output (Some (VerifyRange root key from to)) input content =
+    some_verify_range root.0 key from to input
 some_output (Some (Expose root query root_at)) input content =
     let over : Logged → Output = λ logged. (some_expose root.0 query input compiled_in root_at logged.blocks).0 in
     let stands : Standing = standing (next_by block_in compiled_in) content in
@@ -232,6 +263,29 @@ only_verify_trace root key at input _ _ (VerifiedTrace _ told is) (VerifiedTrace
     ap (λ (t : TraceVerification). output_of (trace_verification_outcome t) [])
     (one_told root key at input told other is i)
 
+only_verify_range : (root key : List ℕ) (from to : ℕ) (input : List ℕ) (a b : Output)
+    → IsVerifyRangeOutput root key from to input a → IsVerifyRangeOutput root key from to input b
+    → a ≡ b
+only_verify_range root key from to input _ _ (LongRange _) (LongRange _) = refl
+only_verify_range root key from to input _ _ (LongRange long) (VerifiedRange fits told is) =
+    absurd (omega (arith, long, fits))
+only_verify_range root key from to input _ _ (VerifiedRange fits told is) (LongRange long) =
+    absurd (omega (arith, long, fits))
+only_verify_range root key from to input _ _ (VerifiedRange _ told is) (VerifiedRange _ other i) =
+    ap (λ (t : RangeVerification). output_of (range_verification_outcome t) [])
+    (one_range_told root key from to input told other is i)
+
+-- by any right decoder and compiler, the output of a question over the blocks of the log is the
+-- same
+same_asked : (read : Decoder) (compile : Compiler) → IsDecoder read → compile ≡ compiled_in
+    → (wanted : Compiler → List Block → Output) (input content : List ℕ) → IsBytes content
+    → (other : Output) → other ≡ asked_by read compile wanted input content
+    → other ≡ asked wanted input content
+same_asked read compile is_read compile_is wanted input content whole other is =
+    is ∙ ap (λ (c : Compiler). asked_by read c wanted input content) compile_is
+    ∙ ap (on_log (λ logged. wanted compiled_in logged.blocks) input)
+    (standing_same (placement_by_mark compiled_in) read block_in is_read decided content whole)
+
 -- by any right decoder, the output for bytes is the same
 same_output : (read : Decoder) (compile : Compiler) → IsDecoder read → compile ≡ compiled_in
     → (command : Option Command) (input content : List ℕ) → IsBytes input → IsBytes content
@@ -255,32 +309,34 @@ same_output read compile is_read compile_is (Some Upgrade) input content fits wh
     is ∙ ap (λ (c : Compiler). on_log (upgrade_output input) input (standing (next_by read c) content)) compile_is
     ∙ ap (on_log (upgrade_output input) input) (standing_same (placement_by_mark compiled_in) read block_in is_read decided content whole)
 same_output read compile is_read compile_is (Some (Root at)) input content fits whole other is =
-    is ∙ ap (λ (c : Compiler). on_log (λ logged. root_output c at input logged.blocks) input (standing (next_by read c) content)) compile_is
-    ∙ ap (on_log (λ logged. root_output compiled_in at input logged.blocks) input) (standing_same (placement_by_mark compiled_in) read block_in is_read decided content whole)
-same_output read compile is_read compile_is (Some (Ask kind key at)) input content fits whole other is =
-    is ∙ ap (λ (c : Compiler). on_log (λ logged. ask_output c kind key at input logged.blocks) input (standing (next_by read c) content)) compile_is
-    ∙ ap (on_log (λ logged. ask_output compiled_in kind key at input logged.blocks) input) (standing_same (placement_by_mark compiled_in) read block_in is_read decided content whole)
-same_output read compile is_read compile_is (Some (Prove query root_at)) input content fits whole other is =
-    is ∙ ap (λ (c : Compiler). on_log (λ logged. prove_output c query root_at input logged.blocks) input (standing (next_by read c) content)) compile_is
-    ∙ ap (on_log (λ logged. prove_output compiled_in query root_at input logged.blocks) input) (standing_same (placement_by_mark compiled_in) read block_in is_read decided content whole)
+    same_asked read compile is_read compile_is (λ c blocks. root_output c at input blocks) input
+    content whole other is
+same_output read compile is_read compile_is (Some (Ask kind key at)) input content fits whole other
+    is = same_asked read compile is_read compile_is
+    (λ c blocks. ask_output c kind key at input blocks) input content whole other is
+same_output read compile is_read compile_is (Some (Prove query root_at)) input content fits whole
+    other is = same_asked read compile is_read compile_is
+    (λ c blocks. prove_output c query root_at input blocks) input content whole other is
 same_output read compile is_read compile_is (Some (Verify root query)) input content fits whole other is = only_verify root.0 query input other (some_verify root.0 query input).0 is (some_verify root.0 query input).1
-same_output read compile is_read compile_is (Some (Trace key at)) input content fits whole
-    other is =
-    is ∙ ap (λ (c : Compiler). on_log (λ logged. trace_output c key at input logged.blocks) input
-    (standing (next_by read c) content)) compile_is
-    ∙ ap (on_log (λ logged. trace_output compiled_in key at input logged.blocks) input)
-    (standing_same (placement_by_mark compiled_in) read block_in is_read decided content whole)
+same_output read compile is_read compile_is (Some (Trace key at)) input content fits whole other
+    is = same_asked read compile is_read compile_is
+    (λ c blocks. trace_output c key at input blocks) input content whole other is
 same_output read compile is_read compile_is (Some (ProveTrace key at root_at)) input content fits
-    whole other is =
-    is ∙ ap (λ (c : Compiler). on_log (λ logged.
-    prove_trace_output c key at root_at input logged.blocks) input
-    (standing (next_by read c) content)) compile_is
-    ∙ ap (on_log (λ logged. prove_trace_output compiled_in key at root_at input logged.blocks)
-    input) (standing_same (placement_by_mark compiled_in) read block_in is_read decided content
-    whole)
+    whole other is = same_asked read compile is_read compile_is
+    (λ c blocks. prove_trace_output c key at root_at input blocks) input content whole other is
 same_output read compile is_read compile_is (Some (VerifyTrace root key at)) input content fits
     whole other is = only_verify_trace root.0 key at input other
     (some_verify_trace root.0 key at input).0 is (some_verify_trace root.0 key at input).1
+same_output read compile is_read compile_is (Some (Range key from to)) input content fits whole
+    other is = same_asked read compile is_read compile_is
+    (λ c blocks. range_output c key from to input blocks) input content whole other is
+same_output read compile is_read compile_is (Some (ProveRange key from to root_at)) input content
+    fits whole other is = same_asked read compile is_read compile_is
+    (λ c blocks. prove_range_output c key from to root_at input blocks) input content whole other is
+same_output read compile is_read compile_is (Some (VerifyRange root key from to)) input content fits
+    whole other is = only_verify_range root.0 key from to input other
+    (some_verify_range root.0 key from to input).0 is
+    (some_verify_range root.0 key from to input).1
 same_output read compile is_read compile_is (Some (Expose root query root_at)) input content fits whole other is =
     let some = some_output (Some (Expose root query root_at)) input content in
     let compiled : IsOnLog (λ logged. IsExposeOutput compiled_in root.0 query root_at input logged.blocks) input (standing (next_by read compiled_in) content) other =

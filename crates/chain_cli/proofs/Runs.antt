@@ -7,7 +7,6 @@ use Rattle.lc_io.specs.Disk.{DiskState, Stays}
 use Rattle.lc_io.specs.Outside.{Tell}
 use Rattle.disk_model.specs.Disk.{IsSettled, Keeps, Rests, content_of}
 use Rattle.disk_model.proofs.Moments.{then_keeps, weaker, stays_on}
-use Rattle.lc_base.specs.declared.answer.Kind.{Kind}
 use Rattle.lc_base.specs.declared.answer.Query.{Query}
 use Rattle.lc_base.specs.declared.digest.Digest.{Digest}
 use Rattle.block_codec.specs.Reading.{block_in}
@@ -42,6 +41,7 @@ use Rattle.cli_words.specs.declared.words.Command.TheVariants.{Scan, Fmt, Pack, 
 use Rattle.cli_words.specs.declared.words.Command.TheVariants.{Upgrade}
 use Rattle.cli_words.specs.declared.words.Command.TheVariants.{Root, Ask, Prove, Verify, Expose}
 use Rattle.cli_words.specs.declared.words.Command.TheVariants.{Trace, ProveTrace, VerifyTrace}
+use Rattle.cli_words.specs.declared.words.Command.TheVariants.{Range, ProveRange, VerifyRange}
 use Rattle.cli_append.specs.cli_lines.Lines.{usage_line}
 use Rattle.cli_append.specs.cli_lines.Outcome.{status_of, outcome_with}
 use Rattle.cli_append.specs.cli_lines.declared.outcome.Outcome.{Outcome}
@@ -54,17 +54,18 @@ use Rattle.cli_output.specs.Output.{gen_output, load_outcome, append_output, app
 use Rattle.cli_output.specs.Output.{upgrade_output}
 use Rattle.cli_output.specs.Output.{on_log, fold_ending}
 use Rattle.cli_output.specs.Output.{answer_outcome, root_outcome, prove_outcome, at_or_last}
+use Rattle.cli_output.specs.Output.{trace_outcome, prove_trace_outcome, range_outcome}
+use Rattle.cli_output.specs.Output.{prove_range_outcome, IsVerifyTraceOutput, LongTrace}
+use Rattle.cli_output.specs.Output.{VerifiedTrace, IsVerifyRangeOutput, LongRange, VerifiedRange}
 use Rattle.cli_output.specs.Output.{edition_number, version_number, IsFmtOutput, Long, Source}
 use Rattle.cli_output.specs.Output.{IsVerifyOutput}
 use Rattle.cli_output.specs.Output.{LongProof, Verified}
-use Rattle.cli_output.specs.Output.{trace_output, trace_outcome, prove_trace_output}
-use Rattle.cli_output.specs.Output.{prove_trace_outcome, IsVerifyTraceOutput, LongTrace}
-use Rattle.cli_output.specs.Output.{VerifiedTrace}
-use Rattle.cli_output.specs.Scanning.{IsVerifyTraceOutcome}
-use Rattle.cli_output.specs.Output.{root_output, ask_output, prove_output, IsExposeOutput, Wants}
+use Rattle.cli_output.specs.Output.{IsExposeOutput, Wants}
+use Rattle.cli_output.specs.Scanning.{IsVerifyTraceOutcome, IsVerifyRangeOutcome}
 use Rattle.cli_output.specs.Uses.{changes_log, reads_input, uses_disk, uses_scratch}
 use Rattle.cli_output.specs.Running.{came_to_end, leaves, is_no_change, Meets, IsGiven, IsRun}
-use Rattle.cli_output.specs.Scanning.{GivesAny, GivesOutput, IsFmtOutcome, IsVerifyOutcome}
+use Rattle.cli_output.specs.Scanning.{GivesAny, GivesFrom, GivesOutput, IsFmtOutcome}
+use Rattle.cli_output.specs.Scanning.{IsVerifyOutcome}
 use Rattle.cli_output.specs.Scanning.{IsExposeOutcome, IsFoundFor, IsFoundOver}
 use Rattle.cli_output.specs.Telling.{status_of_result, status_of_usage, append_answer}
 use Rattle.cli_output.specs.Telling.{upgrade_answer, Tells, stop_of_outcome, start_outcome}
@@ -158,6 +159,20 @@ verify_trace_no_change : (root key : List ℕ) (at : ℕ) (input : List ℕ) (ou
 verify_trace_no_change root key at input _ (LongTrace long) = refl
 verify_trace_no_change root key at input _ (VerifiedTrace fits told is) = refl
 
+verify_range_no_change : (root key : List ℕ) (from to : ℕ) (input : List ℕ) (output : Output)
+    → IsVerifyRangeOutput root key from to input output → output.change ≡ NoChange
+verify_range_no_change root key from to input _ (LongRange long) = refl
+verify_range_no_change root key from to input _ (VerifiedRange fits told is) = refl
+
+-- a question over the blocks of the log has no output that changes it
+asked_no_change : (wanted : List Block → Outcome) (input content : List ℕ) (output : Output)
+    → output ≡ on_log (λ logged. output_of (wanted logged.blocks) input) input
+    (standing next_in_chain content)
+    → output.change ≡ NoChange
+asked_no_change wanted input content output is = ap (λ (o : Output). o.change) is
+    ∙ on_log_no_change (λ logged. output_of (wanted logged.blocks) input) (λ logged. refl) input
+    (standing next_in_chain content)
+
 pack_no_change : (long : Bool) (a b : Output) → a.change ≡ NoChange → b.change ≡ NoChange
     → (cond long a b).change ≡ NoChange
 pack_no_change true a b is_a is_b = is_a
@@ -177,32 +192,27 @@ no_change (Some (Gen generation)) input content output quiet is = ap (λ (o : Ou
 no_change (Some (Load generation)) input content output quiet is = ap (λ (o : Output). o.change) is
 no_change (Some Append) input content output quiet is = absurd (cc quiet)
 no_change (Some Upgrade) input content output quiet is = absurd (cc quiet)
-no_change (Some (Root at)) input content output quiet is = ap (λ (o : Output). o.change) is
-    ∙ on_log_no_change (λ logged. root_output compiled_in at input logged.blocks) (λ logged. refl)
-    input
-    (standing next_in_chain content)
-no_change (Some (Ask kind key at)) input content output quiet is = ap (λ (o : Output). o.change) is
-    ∙ on_log_no_change (λ logged. ask_output compiled_in kind key at input logged.blocks)
-    (λ logged. refl) input
-    (standing next_in_chain content)
-no_change (Some (Prove query root_at)) input content output quiet is = ap
-    (λ (o : Output). o.change) is
-    ∙ on_log_no_change (λ logged. prove_output compiled_in query root_at input logged.blocks)
-    (λ logged. refl) input
-    (standing next_in_chain content)
+no_change (Some (Root at)) input content output quiet is = asked_no_change
+    (λ blocks. root_outcome compiled_in (at_or_last at blocks) blocks) input content output is
+no_change (Some (Ask kind key at)) input content output quiet is = asked_no_change
+    (λ blocks. answer_outcome compiled_in
+    (record { kind = kind; key = key; at = at_or_last at blocks }) blocks) input content output is
+no_change (Some (Prove query root_at)) input content output quiet is =
+    asked_no_change (prove_outcome compiled_in query root_at) input content output is
 no_change (Some (Verify root query)) input content output quiet is = verify_no_change root.0 query
     input output is
-no_change (Some (Trace key at)) input content output quiet is = ap (λ (o : Output). o.change) is
-    ∙ on_log_no_change (λ logged. trace_output compiled_in key at input logged.blocks)
-    (λ logged. refl) input
-    (standing next_in_chain content)
-no_change (Some (ProveTrace key at root_at)) input content output quiet is = ap
-    (λ (o : Output). o.change) is
-    ∙ on_log_no_change (λ logged. prove_trace_output compiled_in key at root_at input logged.blocks)
-    (λ logged. refl) input
-    (standing next_in_chain content)
+no_change (Some (Trace key at)) input content output quiet is =
+    asked_no_change (trace_outcome compiled_in key at) input content output is
+no_change (Some (ProveTrace key at root_at)) input content output quiet is =
+    asked_no_change (prove_trace_outcome compiled_in key at root_at) input content output is
 no_change (Some (VerifyTrace root key at)) input content output quiet is =
     verify_trace_no_change root.0 key at input output is
+no_change (Some (Range key from to)) input content output quiet is =
+    asked_no_change (range_outcome compiled_in key from to) input content output is
+no_change (Some (ProveRange key from to root_at)) input content output quiet is =
+    asked_no_change (prove_range_outcome compiled_in key from to root_at) input content output is
+no_change (Some (VerifyRange root key from to)) input content output quiet is =
+    verify_range_no_change root.0 key from to input output is
 no_change (Some (Expose root query root_at)) input content output quiet is = is_on_log_no_change
     (λ logged. IsExposeOutput compiled_in root.0 query root_at input logged.blocks)
     (λ logged. expose_no_change compiled_in root.0 query root_at input logged.blocks) input
@@ -269,6 +279,14 @@ module _ (state : Option DiskState) (found : Result Outcome OutcomeStop)
   verify_trace_found root key at is heard input content given_input given =
       read_found (IsVerifyTraceOutput root.0 key at) found left_old left_new is input given_input
 
+  pub verify_range_found : (root : Digest) (key : List ℕ) (from to : ℕ)
+      → IfSome left_old (λ input. IfOk found
+      (λ outcome. IsVerifyRangeOutcome root.0 key from to outcome left_new input))
+      → IsFoundFor state left_old left_new held (Some (VerifyRange root key from to)) found
+  verify_range_found root key from to is heard input content given_input given =
+      read_found (IsVerifyRangeOutput root.0 key from to) found left_old left_new is input
+      given_input
+
   pub of_found : (command given : Command) → command ≡ given
       → IsFoundFor state left_old left_new held (Some given) found
       → IsFoundFor state left_old left_new held (Some command) found
@@ -286,52 +304,16 @@ load_found state generation found left held is heard input content given_input g
 -- ---- what is found over the blocks of the log
 
 module _ (kept : ChainState) (found : Result Outcome OutcomeStop) where
-  pub root_over : (at : Option ℕ) (left : Option (List ℕ))
+  -- a question that reads no input
+  pub asked_over : (wanted : List Block → Outcome) (left : Option (List ℕ))
       → IfOk found (λ outcome. (blocks : List Block) → StandsFor kept blocks
-      → outcome ≡ root_outcome compiled_in (at_or_last at blocks) blocks)
-      → IsFoundOver kept left left (Root at) found
-  root_over at left is input given blocks stands =
-      unread_found (root_outcome compiled_in (at_or_last at blocks) blocks) found false left input
-      given (of_blocks found (StandsFor kept)
-      (λ b o. o ≡ root_outcome compiled_in (at_or_last at b) b) is blocks stands)
-
-  pub ask_over : (kind : Kind) (key : List ℕ) (at : Option ℕ) (left : Option (List ℕ))
-      → IfOk found (λ outcome. (blocks : List Block) → StandsFor kept blocks
-      → outcome ≡ answer_outcome compiled_in
-      (record { kind = kind; key = key; at = at_or_last at blocks }) blocks)
-      → IsFoundOver kept left left (Ask kind key at) found
-  ask_over kind key at left is input given blocks stands =
-      unread_found (answer_outcome compiled_in
-      (record { kind = kind; key = key; at = at_or_last at blocks }) blocks) found false left input
-      given (of_blocks found (StandsFor kept) (λ b o. o ≡ answer_outcome compiled_in
-      (record { kind = kind; key = key; at = at_or_last at b }) b) is blocks stands)
-
-  pub prove_over : (query : Query) (root_at : ℕ) (left : Option (List ℕ))
-      → IfOk found (λ outcome. (blocks : List Block) → StandsFor kept blocks
-      → outcome ≡ prove_outcome compiled_in query root_at blocks)
-      → IsFoundOver kept left left (Prove query root_at) found
-  prove_over query root_at left is input given blocks stands =
-      unread_found (prove_outcome compiled_in query root_at blocks) found false left input given
-      (of_blocks found (StandsFor kept) (λ b o. o ≡ prove_outcome compiled_in query root_at b) is
-      blocks stands)
-
-  pub trace_over : (key : List ℕ) (at : ℕ) (left : Option (List ℕ))
-      → IfOk found (λ outcome. (blocks : List Block) → StandsFor kept blocks
-      → outcome ≡ trace_outcome compiled_in key at blocks)
-      → IsFoundOver kept left left (Trace key at) found
-  trace_over key at left is input given blocks stands =
-      unread_found (trace_outcome compiled_in key at blocks) found false left input given
-      (of_blocks found (StandsFor kept) (λ b o. o ≡ trace_outcome compiled_in key at b) is
-      blocks stands)
-
-  pub prove_trace_over : (key : List ℕ) (at root_at : ℕ) (left : Option (List ℕ))
-      → IfOk found (λ outcome. (blocks : List Block) → StandsFor kept blocks
-      → outcome ≡ prove_trace_outcome compiled_in key at root_at blocks)
-      → IsFoundOver kept left left (ProveTrace key at root_at) found
-  prove_trace_over key at root_at left is input given blocks stands =
-      unread_found (prove_trace_outcome compiled_in key at root_at blocks) found false left input
-      given (of_blocks found (StandsFor kept)
-      (λ b o. o ≡ prove_trace_outcome compiled_in key at root_at b) is blocks stands)
+      → outcome ≡ wanted blocks)
+      → (input : List ℕ) → IsGiven false left input → (blocks : List Block)
+      → StandsFor kept blocks
+      → IfOk found (GivesFrom (λ output. output ≡ output_of (wanted blocks) input) left left)
+  asked_over wanted left is input given blocks stands =
+      unread_found (wanted blocks) found false left input given
+      (of_blocks found (StandsFor kept) (λ b o. o ≡ wanted b) is blocks stands)
 
   every_block : (root : Digest) (query : Query) (root_at : ℕ) (left_old left_new : Option (List ℕ))
       (blocks : List Block) → StandsFor kept blocks

@@ -27,6 +27,7 @@ use crate::scan::scan;
 use cli_append::{Node, Outcome, stored_chain};
 use cli_output::{OutcomeStop, start_outcome};
 use cli_proofs::{Lineage, expose, prove, verify};
+use cli_ranges::{prove_range, range, verify_range};
 use cli_traces::{prove_trace, trace, verify_trace};
 use cli_words::Command;
 use disk_model::Disk;
@@ -66,6 +67,7 @@ fn lineage_outcome<I: Source, S: Scratch>(
     source: &mut I,
     scratch: &mut S,
 ) -> Result<Outcome, OutcomeStop>
+    requires given { CanBeGiven command.now }
     requires asks { asks_lineage (Some command.now) ≡ true }
     requires agrees { AgreesWith lineage.old (S.state scratch.old) }
     // Holds if it is known which bytes the scratch device holds.
@@ -91,6 +93,13 @@ fn lineage_outcome<I: Source, S: Scratch>(
         Command::ProveTrace { key, at, root_at } => {
             prove_trace(alloc, key, *at, *root_at, lineage, scratch)
         }
+        Command::Range { key, from, to } => range(alloc, key, *from, *to, lineage, scratch),
+        Command::ProveRange {
+            key,
+            from,
+            to,
+            root_at,
+        } => prove_range(alloc, key, *from, *to, *root_at, lineage, scratch),
         _ => unreachable!(),
     }
 }
@@ -103,6 +112,7 @@ fn ask_lineage<I: Source, M: Disk, S: Scratch>(
     machine: &mut M,
     scratch: &mut S,
 ) -> Result<Outcome, OutcomeStop>
+    requires given { CanBeGiven command.now }
     requires settled { IsSettled (M.disk machine.old (M.now machine.old)) }
     requires asks { asks_lineage (Some command.now) ≡ true }
     ensures found { IsFoundFor (M.disk machine.old (M.now machine.old)) (I.left source.old) (I.left source.new) (is_known (S.state scratch.old)) (Some command.now) result }
@@ -157,11 +167,19 @@ pub fn find<I: Source, M: Disk, S: Scratch>(
         Command::Ask { kind, key, at } => ask_rows(resources, *kind, *key, *at, machine),
         Command::Verify { root, query } => verify(alloc, root, query, source),
         Command::VerifyTrace { root, key, at } => verify_trace(alloc, root, key, *at, source),
+        Command::VerifyRange {
+            root,
+            key,
+            from,
+            to,
+        } => verify_range(alloc, root, key, *from, *to, source),
         Command::Root(_)
         | Command::Prove { .. }
         | Command::Expose { .. }
         | Command::Trace { .. }
-        | Command::ProveTrace { .. } => ask_lineage(resources, command, source, machine, scratch),
+        | Command::ProveTrace { .. }
+        | Command::Range { .. }
+        | Command::ProveRange { .. } => ask_lineage(resources, command, source, machine, scratch),
         Command::Gen(_) | Command::Append | Command::Upgrade => unreachable!(),
     }
 }

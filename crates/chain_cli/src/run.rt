@@ -18,7 +18,7 @@ ghost use Rattle.crash_promises.specs.Promises.{MayLeaveAny};
 ghost use Rattle.cli_output.specs.{
   Output.{FormatsAgain, IsWanted, IsOneOutput, log_next_by, next_by},
   Running.{IsRun, IsSilent, MayEnd, found_no_log},
-  Showing.{VerifiedAnswersHold, VerifiedTracesHold, WrongAnswersAreTold},
+  Showing.{VerifiedAnswersHold, VerifiedTracesHold, VerifiedRangesHold, WrongAnswersAreTold},
   Telling.{status_of_result},
   Uses.{reads_input, uses_disk, uses_scratch, changes_log, tells_as_it_goes},
 };
@@ -114,7 +114,7 @@ fn run_words<I: Source, M: Disk + Wire, S: Scratch>(
 
 /// Everything that the program does: it reads the words, the input and the disk, keeps bodies of
 /// versions on the scratch device, prints the lines, and appends to the log or marks it.
-#[tactic(auto, using(crate::proofs::OneOutput::one_output, crate::proofs::Formatted::formats_again, crate::proofs::Held::verified_holds, crate::proofs::HeldTraces::verified_traces_hold, cli_output::proofs::WrongTold::wrong_answers_are_told, block_codec::proofs::WholeBlocks::decided, crate::proofs::OneOutput::compiled_by))]
+#[tactic(auto, using(crate::proofs::OneOutput::one_output, crate::proofs::Formatted::formats_again, crate::proofs::Held::verified_holds, crate::proofs::HeldTraces::verified_traces_hold, crate::proofs::HeldRanges::verified_ranges_hold, cli_output::proofs::WrongTold::wrong_answers_are_told, block_codec::proofs::WholeBlocks::decided, crate::proofs::OneOutput::compiled_by))]
 pub fn run<I: Source, M: Disk + Wire, S: Scratch>(
     resources: Resources,
     words: &[String],
@@ -149,6 +149,9 @@ pub fn run<I: Source, M: Disk + Wire, S: Scratch>(
     // differ and have one digest.
     ensures traced { (root key : List ℕ) (at : ℕ) (input : List ℕ)
         → VerifiedTracesHold root key at input }
+    // So are the versions between two blocks that `range verify` prints.
+    ensures ranged { (root key : List ℕ) (from to : ℕ) (input : List ℕ)
+        → VerifiedRangesHold root key from to input }
     // Whatever the source has left, if the disk is known, and which bytes the scratch device holds:
     // a crash at any moment leaves what the disk held, or the chain of that with further blocks, or
     // marked.

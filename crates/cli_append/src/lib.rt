@@ -15,7 +15,7 @@ mod upgrading;
 pub use appending::append;
 pub use cli_lines::{
     Ending, Outcome, Status, answer_lines, beyond_line, damaged_line, digest_text, hex_after, line,
-    not_a_log_line, read_whole, refused_line, root_line, trace_lines, usage_line,
+    not_a_log_line, range_lines, read_whole, refused_line, root_line, trace_lines, usage_line,
 };
 pub use ending::{AppendEnd, RunStop};
 pub use recovery::{Node, StartError, stored_chain};

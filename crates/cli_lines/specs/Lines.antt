@@ -6,6 +6,7 @@ use Rattle.lc_base.specs.declared.value.Value.TheVariants.{Int, Text, Gone}
 use Rattle.lc_base.specs.declared.answer.Answer.{Answer}
 use Rattle.lc_base.specs.declared.answer.Answer.TheVariants.{Nothing, Hist, Back, Fwd}
 use Rattle.lc_base.specs.declared.row.Dep.{Dep}
+use Rattle.lc_base.specs.declared.row.Version.{Version}
 use Rattle.row_ancestors.specs.declared.trace.Trace.{Trace}
 use Rattle.contract_parse.specs.declared.source.SyntaxKind.{SyntaxKind}
 use Rattle.contract_parse.specs.declared.source.SyntaxKind.TheVariants as syntax
@@ -34,10 +35,20 @@ value_text Gone = codes "gone"
 abbrev pub dep_line : Dep → List ℕ
 dep_line dep = line (dep.key ++ codes " " ++ decimal dep.block)
 
+-- A version of a key that is known: its block, the index of its transaction, and its value.
+abbrev pub hist_line : ℕ → ℕ → Value → List ℕ
+hist_line block tx value =
+    line (codes "block " ++ decimal block ++ codes " tx " ++ decimal tx ++ codes " "
+    ++ value_text value)
+
+-- The same of a version.
+abbrev pub version_line : Version → List ℕ
+version_line version = hist_line version.block version.tx version.value
+
 -- The lines of an answer: one, and for a list one more for each of its versions.
 abbrev pub answer_lines : Answer → List (List ℕ)
 answer_lines Nothing = line (codes "none") ∷ []
-answer_lines (Hist block tx value) = line (codes "block " ++ decimal block ++ codes " tx " ++ decimal tx ++ codes " " ++ value_text value) ∷ []
+answer_lines (Hist block tx value) = hist_line block tx value ∷ []
 answer_lines (Back block deps) = line (codes "block " ++ decimal block ++ codes " deps " ++ decimal (length deps)) ∷ map dep_line deps
 answer_lines (Fwd block uses) = line (codes "block " ++ decimal block ++ codes " uses " ++ decimal (length uses)) ∷ map dep_line uses
 
@@ -48,6 +59,11 @@ trace_lines None = line (codes "none") ∷ []
 trace_lines (Some trace) =
     line (codes "block " ++ decimal trace.block ++ codes " ancestors " ++ decimal (length trace.ancestors))
     ∷ map dep_line trace.ancestors
+
+-- The lines of versions of a key: their number, and one more for each of them.
+abbrev pub range_lines : List Version → List (List ℕ)
+range_lines versions =
+    line (codes "versions " ++ decimal (length versions)) ∷ map version_line versions
 
 -- The line for words that are no command.
 abbrev pub usage_line : List ℕ

@@ -4,12 +4,12 @@ ghost use Rattle.std.specs.{
   Prelude.{◌≡◌, [], ◌∷◌, ◌++◌, codes, decimal, map, string_bytes, IfOk},
   Fmt.{signed_decimal},
 };
-ghost use Rattle.cli_lines.specs.Lines.{usage_line, beyond_line, misplaced_text, refusal_text, cause_text, refused_line, value_text, dep_line, answer_lines, trace_lines, bad_input_line, not_a_log_line, damaged_line, upgraded_line, already_upgraded_line, root_line, line};
+ghost use Rattle.cli_lines.specs.Lines.{usage_line, beyond_line, misplaced_text, refusal_text, cause_text, refused_line, value_text, hist_line, version_line, dep_line, answer_lines, trace_lines, range_lines, bad_input_line, not_a_log_line, damaged_line, upgraded_line, already_upgraded_line, root_line, line};
 ghost use Rattle.hex.specs.Hex.{encode_lower};
 
 use chain_input::{Cause, Misplaced, Refusal};
 use digest_kit::digest_text;
-use lc_base::{Answer, Bytes, Dep, DepList, Digest, Memory, Seq, Value};
+use lc_base::{Answer, Bytes, Dep, DepList, Digest, Memory, Seq, Value, Version};
 use row_ancestors::Trace;
 use std::alloc::{AllocError, Global};
 
@@ -244,7 +244,7 @@ pub fn answer_lines(alloc: Global, answer: &Answer) -> Result<Seq<Bytes>, Memory
 }
 
 fn hist_line(alloc: Global, block: u32, tx: u16, value: &Value) -> Result<Bytes, Memory>
-    ensures { IfOk result (λ bytes. bytes ≡ line (codes "block " ++ decimal block ++ codes " tx " ++ decimal tx ++ codes " " ++ value_text value.now)) }
+    ensures { IfOk result (λ bytes. bytes ≡ hist_line block tx value.now) }
 {
     match value {
         Value::Int(number) => int_line(alloc, block, tx, *number),
@@ -272,4 +272,29 @@ pub fn trace_lines(alloc: Global, trace: &Option<Trace>) -> Result<Seq<Bytes>, M
             dep_lines(alloc, head, trace.ancestors.as_slice())
         }
     }
+}
+
+fn version_line(alloc: Global, version: &Version) -> Result<Bytes, Memory>
+    ensures { IfOk result (λ bytes. bytes ≡ version_line version.now) }
+{
+    hist_line(alloc, version.block, version.tx, &version.value)
+}
+
+fn range_head(alloc: Global, count: usize) -> Result<Bytes, Memory>
+    ensures { IfOk result (λ bytes. bytes ≡ line (codes "versions " ++ decimal count)) }
+{
+    let text = format!(in alloc; "versions {count}")?;
+    line(alloc, text.as_str())
+}
+
+/// The lines of versions of a key: one of their number, and one more for each of them.
+pub fn range_lines(alloc: Global, versions: &[Version]) -> Result<Seq<Bytes>, Memory>
+    ensures { IfOk result (λ lines. lines ≡ range_lines versions.now) }
+{
+    let mut lines = Seq::new(alloc);
+    lines.push(range_head(alloc, versions.len())?)?;
+    for version in versions {
+        lines.push(version_line(alloc, version)?)?;
+    }
+    Ok(lines)
 }

@@ -15,8 +15,10 @@ use Rattle.cli_words.specs.declared.words.Command.{Command}
 use Rattle.cli_words.specs.declared.words.Command.TheVariants.{Scan, Fmt, Pack, Gen, Load, Append, Upgrade}
 use Rattle.cli_words.specs.declared.words.Command.TheVariants.{Root, Ask, Prove, Verify, Expose}
 use Rattle.cli_words.specs.declared.words.Command.TheVariants.{Trace, ProveTrace, VerifyTrace}
+use Rattle.cli_words.specs.declared.words.Command.TheVariants.{Range, ProveRange, VerifyRange}
 use Rattle.cli_output.specs.Output.{Output, output_of, root_output, ask_output, prove_output}
 use Rattle.cli_output.specs.Output.{trace_output, prove_trace_output}
+use Rattle.cli_output.specs.Output.{range_output, prove_range_output}
 use Rattle.cli_output.specs.Output.{IsOnLog, Wants}
 use Rattle.cli_output.specs.Uses.{ChainUse, NoChain, InputRows, LogRows, LogLineage, MadeLineage}
 use Rattle.cli_output.specs.Uses.{LogAppended, LogMarked, use_of, is_log_lineage, is_log_asked}
@@ -143,6 +145,12 @@ log_wanted (Trace key at) asks input content output is = on_log_is
 log_wanted (ProveTrace key at root_at) asks input content output is = on_log_is
     (λ logged. prove_trace_output compiled_in key at root_at input logged.blocks) input
     (standing next_in_chain content) output is
+log_wanted (Range key from to) asks input content output is = on_log_is
+    (λ logged. range_output compiled_in key from to input logged.blocks) input
+    (standing next_in_chain content) output is
+log_wanted (ProveRange key from to root_at) asks input content output is = on_log_is
+    (λ logged. prove_range_output compiled_in key from to root_at input logged.blocks) input
+    (standing next_in_chain content) output is
 log_wanted (Scan query) asks input content output is = absurd (cc asks)
 log_wanted (Fmt edition) asks input content output is = absurd (cc asks)
 log_wanted (Pack version) asks input content output is = absurd (cc asks)
@@ -152,6 +160,7 @@ log_wanted Append asks input content output is = absurd (cc asks)
 log_wanted Upgrade asks input content output is = absurd (cc asks)
 log_wanted (Verify root query) asks input content output is = absurd (cc asks)
 log_wanted (VerifyTrace root key at) asks input content output is = absurd (cc asks)
+log_wanted (VerifyRange root key from to) asks input content output is = absurd (cc asks)
 
 -- their chain was started
 pub asked_found : (state : Option DiskState) (command : Command) (kept : ChainState)

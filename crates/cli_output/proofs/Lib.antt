@@ -2,6 +2,7 @@ pub mod Plain
 pub mod Ends
 pub mod Meets
 pub mod Found
+pub mod Reached
 pub mod Exposed
 pub mod WrongTold
 pub mod LoadTexts

@@ -2,6 +2,7 @@ pub mod Texts
 pub mod Blocks
 pub mod Proofs
 pub mod Traces
+pub mod Ranges
 pub mod LoadLine
 pub mod Output
 pub mod Uses

@@ -45,6 +45,11 @@ use Rattle.trace_checks.specs.declared.trace_proof.TraceProof.{TraceProof}
 use Rattle.trace_checks.specs.Making.{made_trace}
 use Rattle.trace_commands.specs.Verifying.{IsTraceVerification}
 use Rattle.trace_commands.specs.declared.verification.TraceVerification.{TraceVerification}
+use Rattle.range_commands.specs.range_checks.row_ranges.Ranges.{between}
+use Rattle.range_commands.specs.range_checks.declared.range_proof.RangeProof.{RangeProof}
+use Rattle.range_commands.specs.range_checks.Making.{made_range}
+use Rattle.range_commands.specs.Verifying.{IsRangeVerification}
+use Rattle.range_commands.specs.declared.verification.RangeVerification.{RangeVerification}
 use Rattle.cli_words.specs.declared.words.Edition.{Edition}
 use Rattle.cli_words.specs.declared.words.Edition.TheVariants as editions
 use Rattle.cli_words.specs.declared.words.BlockVersion.{BlockVersion}
@@ -54,10 +59,11 @@ use Rattle.cli_words.specs.declared.words.Command.{Command}
 use Rattle.cli_words.specs.declared.words.Command.TheVariants.{Scan, Fmt, Pack, Gen, Load, Append, Upgrade}
 use Rattle.cli_words.specs.declared.words.Command.TheVariants.{Root, Ask, Prove, Verify, Expose}
 use Rattle.cli_words.specs.declared.words.Command.TheVariants.{Trace, ProveTrace, VerifyTrace}
+use Rattle.cli_words.specs.declared.words.Command.TheVariants.{Range, ProveRange, VerifyRange}
 use Rattle.cli_append.specs.cli_lines.Lines.{usage_line, beyond_line, root_line}
 use Rattle.cli_output.specs.LoadLine.{load_line}
 use Rattle.cli_append.specs.cli_lines.Lines.{refused_line, answer_lines, trace_lines, syntax_cause}
-use Rattle.cli_append.specs.cli_lines.Lines.{check_cause}
+use Rattle.cli_append.specs.cli_lines.Lines.{check_cause, range_lines}
 use Rattle.cli_append.specs.cli_lines.Lines.{not_a_log_line, damaged_line}
 use Rattle.cli_append.specs.cli_lines.Outcome.{status_of, outcome_with, bad_input}
 use Rattle.cli_append.specs.cli_lines.declared.whole.TheConstants.{MAX_WHOLE_INPUT_BYTES}
@@ -71,6 +77,7 @@ use Rattle.cli_output.specs.Blocks.{frame, draft_outcome}
 use Rattle.cli_output.specs.Proofs.{proof_line, verification_outcome, is_accepted, IsAcceptedHex}
 use Rattle.cli_output.specs.Proofs.{clash_outcome}
 use Rattle.cli_output.specs.Traces.{trace_proof_line, trace_verification_outcome}
+use Rattle.cli_output.specs.Ranges.{range_proof_line, range_verification_outcome}
 
 -- ---- outputs
 
@@ -186,6 +193,17 @@ pub data IsVerifyTraceOutput (root key : List ℕ) (at : ℕ) (input : List ℕ)
   VerifiedTrace : FitsInput input → (told : TraceVerification)
       → IsTraceVerification root key at input told
       → IsVerifyTraceOutput root key at input (output_of (trace_verification_outcome told) [])
+
+-- The output of `range verify` for an input and a root: the outcome of verifying the range proof
+-- that the input is, in hex, or that it is too long.
+pub data IsVerifyRangeOutput (root key : List ℕ) (from to : ℕ) (input : List ℕ)
+    : Output → Type 0 where
+  LongRange : MAX_WHOLE_INPUT_BYTES < length input
+      → IsVerifyRangeOutput root key from to input (long_output input)
+  VerifiedRange : FitsInput input → (told : RangeVerification)
+      → IsRangeVerification root key from to input told
+      → IsVerifyRangeOutput root key from to input
+      (output_of (range_verification_outcome told) [])
 
 -- The number of a version of blocks.
 abbrev pub version_number : BlockVersion → ℕ
@@ -343,6 +361,37 @@ abbrev pub prove_trace_output : Compiler → List ℕ → ℕ → ℕ → List �
 prove_trace_output compile key at root_at input blocks =
     output_of (prove_trace_outcome compile key at root_at blocks) input
 
+-- The outcome of `range` for two blocks of a chain: all versions of the key between them, if the
+-- chain has the last block.
+abbrev pub range_outcome : Compiler → List ℕ → ℕ → ℕ → List Block → Outcome
+range_outcome compile key from to blocks =
+    outcome_at to blocks (range_lines (between (replay compile blocks).rows key from to))
+
+-- The output of `range` over the blocks of the log. It leaves the input.
+abbrev pub range_output : Compiler → List ℕ → ℕ → ℕ → List ℕ → List Block → Output
+range_output compile key from to input blocks =
+    output_of (range_outcome compile key from to blocks) input
+
+-- The proof that is made of all versions between two blocks over the blocks of a chain, for one who
+-- has the root at a block.
+abbrev pub made_range_in : Compiler → List Block → List ℕ → ℕ → ℕ → ℕ → RangeProof
+made_range_in compile blocks key from to root_at =
+    made_range (replay compile blocks).rows (map digest_of blocks) root_at key from to
+
+-- The outcome of `range prove`: the line of the proof, if the chain has the block of the root and
+-- the last block is no later one.
+abbrev pub prove_range_outcome : Compiler → List ℕ → ℕ → ℕ → ℕ → List Block → Outcome
+prove_range_outcome compile key from to root_at blocks =
+    if nat_le to root_at && nat_lt root_at (length blocks)
+    then outcome_with (range_proof_line (made_range_in compile blocks key from to root_at) ∷ [])
+    endings.Done
+    else beyond_head blocks
+
+-- The output of `range prove` over the blocks of the log. It leaves the input.
+abbrev pub prove_range_output : Compiler → List ℕ → ℕ → ℕ → ℕ → List ℕ → List Block → Output
+prove_range_output compile key from to root_at input blocks =
+    output_of (prove_range_outcome compile key from to root_at blocks) input
+
 -- The blocks reach the block of the root, and the question is about no later one.
 abbrev pub Reach : List Block → Query → ℕ → Type 0
 Reach blocks query root_at = (root_at < length blocks) × (query.at ≤ root_at)
@@ -395,6 +444,14 @@ Wants read compile (Some (ProveTrace key at root_at)) input content output =
     (standing (next_by read compile) content)
 Wants read compile (Some (VerifyTrace root key at)) input content output =
     IsVerifyTraceOutput root.0 key at input output
+Wants read compile (Some (Range key from to)) input content output =
+    output ≡ on_log (λ logged. range_output compile key from to input logged.blocks) input
+    (standing (next_by read compile) content)
+Wants read compile (Some (ProveRange key from to root_at)) input content output =
+    output ≡ on_log (λ logged. prove_range_output compile key from to root_at input logged.blocks)
+    input (standing (next_by read compile) content)
+Wants read compile (Some (VerifyRange root key from to)) input content output =
+    IsVerifyRangeOutput root.0 key from to input output
 
 -- This is the output of the command, by a right decoder and a right compiler.
 abbrev pub IsWanted : Option Command → List ℕ → List ℕ → Output → Type 0

@@ -10,12 +10,14 @@ use Rattle.replay_soundness.specs.chain_replay.Chain.{ChainState, StandsFor}
 use Rattle.cli_words.specs.declared.words.Command.{Command}
 use Rattle.cli_words.specs.declared.words.Command.TheVariants.{Root, Ask, Prove, Expose}
 use Rattle.cli_words.specs.declared.words.Command.TheVariants.{Trace, ProveTrace}
+use Rattle.cli_words.specs.declared.words.Command.TheVariants.{Range, ProveRange}
 use Rattle.cli_append.specs.cli_lines.declared.outcome.Outcome.{Outcome}
 use Rattle.cli_append.specs.cli_lines.declared.outcome.Ending.{Ending}
 use Rattle.cli_append.specs.cli_lines.declared.outcome.Ending.TheVariants as endings
 use Rattle.cli_output.specs.Output.{Output, output_of, IsFmtOutput, IsVerifyOutput, IsExposeOutput}
 use Rattle.cli_output.specs.Output.{root_output, ask_output, prove_output, Wants}
 use Rattle.cli_output.specs.Output.{trace_output, prove_trace_output, IsVerifyTraceOutput}
+use Rattle.cli_output.specs.Output.{range_output, prove_range_output, IsVerifyRangeOutput}
 use Rattle.cli_output.specs.Running.{leaves, HeldIsGiven, IsGiven}
 use Rattle.cli_output.specs.Uses.{reads_input, uses_disk}
 use Rattle.cli_output.specs.declared.stop.OutcomeStop.{OutcomeStop}
@@ -43,6 +45,12 @@ IsVerifyOutcome root query outcome left input =
 abbrev pub IsVerifyTraceOutcome : List ℕ → List ℕ → ℕ → Outcome → Option (List ℕ) → List ℕ → Type 0
 IsVerifyTraceOutcome root key at outcome left input =
     GivesAny (IsVerifyTraceOutput root key at input) outcome left
+
+-- The outcome and what is left of the input are those of `range verify`.
+abbrev pub IsVerifyRangeOutcome : List ℕ → List ℕ → ℕ → ℕ → Outcome → Option (List ℕ) → List ℕ
+    → Type 0
+IsVerifyRangeOutcome root key from to outcome left input =
+    GivesAny (IsVerifyRangeOutput root key from to input) outcome left
 
 -- The outcome and what is left of the input are those of `expose` against the blocks of the log.
 abbrev pub IsExposeOutcome : List ℕ → Query → ℕ → List Block → Outcome → Option (List ℕ) → List ℕ
@@ -78,6 +86,10 @@ WantsOver (Trace key at) input blocks output =
     output ≡ trace_output compiled_in key at input blocks
 WantsOver (ProveTrace key at root_at) input blocks output =
     output ≡ prove_trace_output compiled_in key at root_at input blocks
+WantsOver (Range key from to) input blocks output =
+    output ≡ range_output compiled_in key from to input blocks
+WantsOver (ProveRange key from to root_at) input blocks output =
+    output ≡ prove_range_output compiled_in key from to root_at input blocks
 WantsOver other input blocks output = ⊥
 
 -- The same as `IsFoundFor` for such a command, over all blocks that this stands for.

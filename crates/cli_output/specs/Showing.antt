@@ -1,5 +1,5 @@
 -- What the answer that `verify` prints proves, what `expose` prints for a wrong one, and what the
--- ancestors that `trace verify` prints prove.
+-- ancestors that `trace verify` prints and the versions that `range verify` prints prove.
 use Rattle.std.specs.Prelude.{◌≡◌, ◌≢◌, ◌⊎◌, ◌≤◌, ℕ, List, [], ◌∷◌, map, Ok}
 use Rattle.hex.specs.Hex.{decode_of}
 use Rattle.lc_base.specs.declared.answer.Answer.{Answer}
@@ -17,11 +17,14 @@ use Rattle.replay_soundness.specs.Soundness.{ClashesWithReplay}
 use Rattle.replay_soundness.specs.Traces.{replayed_trace, TraceClashesWithReplay}
 use Rattle.trace_checks.specs.declared.trace_proof.TraceProof.{TraceProof}
 use Rattle.trace_checks.specs.Spelling.{SpellsTrace}
+use Rattle.replay_soundness.specs.Ranges.{replayed_range, RangeClashesWithReplay}
+use Rattle.range_commands.specs.range_checks.declared.range_proof.RangeProof.{RangeProof}
+use Rattle.range_commands.specs.range_checks.Spelling.{SpellsRange}
 use Rattle.crash_promises.specs.Promises.{Line, plain}
-use Rattle.cli_append.specs.cli_lines.Lines.{answer_lines, trace_lines}
+use Rattle.cli_append.specs.cli_lines.Lines.{answer_lines, trace_lines, range_lines}
 use Rattle.cli_append.specs.cli_lines.declared.status.Status.TheVariants as statuses
 use Rattle.cli_output.specs.Output.{Output, FitsInput, IsVerifyOutput, IsExposeOutput}
-use Rattle.cli_output.specs.Output.{IsVerifyTraceOutput}
+use Rattle.cli_output.specs.Output.{IsVerifyTraceOutput, IsVerifyRangeOutput}
 use Rattle.cli_output.specs.Proofs.{clash_line}
 
 -- The input is this proof in hex.
@@ -81,3 +84,26 @@ VerifiedTracesHold root key at input =
     → output.status ≡ statuses.Done
     → (proof : TraceProof) × IsTraceInHex input proof
     × TellsReplayedTraces root key at proof output.lines
+
+-- The input is this range proof in hex.
+abbrev pub IsRangeInHex : List ℕ → RangeProof → Type 0
+IsRangeInHex input range =
+    (bytes : List ℕ) × (decode_of (hex_text input) ≡ Ok bytes) × SpellsRange bytes range
+
+-- The lines are those of all versions of the key between the blocks, of replaying the blocks of any
+-- chain that has the root, up to the block at which it has it; or a text of the proof and one of
+-- that chain's ledger differ and have one digest.
+abbrev pub TellsReplayedRanges : List ℕ → List ℕ → ℕ → ℕ → RangeProof → List Line → Type 0
+TellsReplayedRanges root key from to range lines =
+    (compile : Compiler) (blocks : List Block) (block : ℕ) → HasRoot compile blocks block root
+    → (lines ≡ map plain (range_lines (replayed_range compile blocks block key from to)))
+    ⊎ RangeClashesWithReplay compile blocks block range
+
+-- If `range verify` ends well, the input is a range proof, and what it prints are the versions of
+-- every chain with the root, or there is a clash.
+abbrev pub VerifiedRangesHold : List ℕ → List ℕ → ℕ → ℕ → List ℕ → Type 0
+VerifiedRangesHold root key from to input =
+    (output : Output) → IsVerifyRangeOutput root key from to input output
+    → output.status ≡ statuses.Done
+    → (range : RangeProof) × IsRangeInHex input range
+    × TellsReplayedRanges root key from to range output.lines

@@ -5,6 +5,7 @@ use Rattle.cli_words.specs.declared.words.Command.{Command}
 use Rattle.cli_words.specs.declared.words.Command.TheVariants.{Scan, Fmt, Pack, Gen, Load, Append, Upgrade}
 use Rattle.cli_words.specs.declared.words.Command.TheVariants.{Root, Ask, Prove, Verify, Expose}
 use Rattle.cli_words.specs.declared.words.Command.TheVariants.{Trace, ProveTrace, VerifyTrace}
+use Rattle.cli_words.specs.declared.words.Command.TheVariants.{Range, ProveRange, VerifyRange}
 
 -- What is read of the input: nothing; frames of blocks; all of it, as a text; or all of it, as a
 -- proof that is checked.
@@ -56,6 +57,11 @@ use_of (Some (Trace key at)) = record { input = Unread; chain = LogLineage; prin
 use_of (Some (ProveTrace key at root_at)) = record
     { input = Unread; chain = LogLineage; print = AtEnd }
 use_of (Some (VerifyTrace root key at)) = record
+    { input = ProofText; chain = NoChain; print = AtEnd }
+use_of (Some (Range key from to)) = record { input = Unread; chain = LogLineage; print = AtEnd }
+use_of (Some (ProveRange key from to root_at)) = record
+    { input = Unread; chain = LogLineage; print = AtEnd }
+use_of (Some (VerifyRange root key from to)) = record
     { input = ProofText; chain = NoChain; print = AtEnd }
 
 -- ---- what follows from it

@@ -10,7 +10,7 @@ mod telling;
 
 pub use asking::beyond;
 pub use cli_append::{
-    Ending, Node, Outcome, RunStop, answer_lines, hex_after, read_whole, trace_lines,
+    Ending, Node, Outcome, RunStop, answer_lines, hex_after, range_lines, read_whole, trace_lines,
 };
 pub use loads::load_line;
 pub use starting::start_outcome;

@@ -1,8 +1,6 @@
 -- The output of `prove` over the blocks of a log, by cases.
-use Rattle.std.proofs.Common.{◌≡◌, ℕ, ◌<◌, ◌≤◌, Bool, true, cond, leb, ltb, ◌&&◌, List, [], ◌∷◌}
-use Rattle.std.proofs.Common.{length, map, Ok, sym, ap, ◌∙◌, subst, arith}
+use Rattle.std.proofs.Common.{◌≡◌, ℕ, List, [], ◌∷◌, length, map, Ok, sym, ap, ◌∙◌, subst, arith}
 use Rattle.std.specs.List.{concat}
-use Rattle.std.proofs.lemmas.Bool.Decides.{nat_tests}
 use Rattle.hex.specs.Hex.{encode_lower}
 use Rattle.lc_base.specs.declared.answer.Query.{Query}
 use Rattle.lc_base.specs.declared.digest.Digest.{Digest}
@@ -17,27 +15,14 @@ use Rattle.proof_codec.specs.Spelling.{proof_fields}
 use Rattle.proof_checks.specs.Making.{made_proof}
 use Rattle.answer_proof.specs.Proving.{IsWithin, IsProved}
 use Rattle.cli_output.proofs.rooted_chain.Rooted.{as_many}
+use Rattle.cli_output.proofs.Reached.{root_reached}
 use Rattle.cli_proofs.specs.Exposing.{ledger_kept}
 use Rattle.cli_output.specs.cli_lines.Lines.{line}
 use Rattle.cli_output.specs.cli_lines.Outcome.{outcome_with}
 use Rattle.cli_output.specs.cli_lines.declared.outcome.Outcome.{Outcome}
 use Rattle.cli_output.specs.cli_lines.declared.outcome.Ending.TheVariants as endings
-use Rattle.cli_output.specs.Output.{beyond_head, prove_outcome, made_in}
+use Rattle.cli_output.specs.Output.{prove_outcome, made_in}
 use Rattle.cli_output.specs.Proofs.{proof_line}
-
--- the outcome, by whether the chain has the block and the question is about no later one
-abbrev within : Bool → Query → ℕ → List Block → Outcome
-within fits query root_at blocks = cond fits
-    (outcome_with (proof_line (made_in compiled_in blocks query root_at) ∷ []) endings.Done)
-    (beyond_head blocks)
-
-told_of : (query : Query) (root_at : ℕ) (blocks : List Block) → root_at < length blocks
-    → query.at ≤ root_at → prove_outcome compiled_in query root_at blocks ≡ outcome_with
-    (proof_line (made_in compiled_in blocks query root_at) ∷ []) endings.Done
-told_of query root_at blocks low early =
-    let fits : leb query.at root_at && ltb root_at (length blocks) ≡ true = grind (arith, nat_tests)
-    in
-    ap (λ (b : Bool). within b query root_at blocks) fits
 
 -- the proof that is made of what is kept of a chain is that of its blocks
 made_is : (kept : ChainState) (blocks : List Block) (query : Query) (root_at : ℕ)
@@ -59,7 +44,8 @@ proved kept blocks query root_at bytes told outcome stands (low, early) spelled 
     (is ∙ ap (λ (b : List ℕ). line (encode_lower b))
     (spelled ∙ ap (λ (proof : Proof). concat (proof_fields proof))
     (made_is kept blocks query root_at stands)))
-    ∙ sym (told_of query root_at blocks (omega (arith, low, as_many kept blocks stands)) early)
+    ∙ sym (root_reached query.at root_at blocks _
+    (omega (arith, low, as_many kept blocks stands)) early)
 
 -- ---- what is printed for what was returned
 

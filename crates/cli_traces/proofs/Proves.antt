@@ -1,8 +1,6 @@
 -- The output of `trace prove` over the blocks of a log, by cases.
-use Rattle.std.proofs.Common.{◌≡◌, ℕ, ◌<◌, ◌≤◌, Bool, true, cond, leb, ltb, ◌&&◌, List, [], ◌∷◌}
-use Rattle.std.proofs.Common.{length, map, sym, ap, ◌∙◌, arith}
+use Rattle.std.proofs.Common.{◌≡◌, ℕ, ◌<◌, ◌≤◌, List, [], ◌∷◌, length, map, sym, ap, ◌∙◌, arith}
 use Rattle.std.specs.List.{concat}
-use Rattle.std.proofs.lemmas.Bool.Decides.{nat_tests}
 use Rattle.hex.specs.Hex.{encode_lower}
 use Rattle.lc_base.specs.declared.digest.Digest.{Digest}
 use Rattle.block_codec.specs.Placement.{digest_of}
@@ -15,25 +13,14 @@ use Rattle.trace_checks.specs.declared.trace_proof.TraceProof.{TraceProof}
 use Rattle.trace_checks.specs.Spelling.{trace_fields}
 use Rattle.trace_checks.specs.Making.{made_trace}
 use Rattle.cli_output.proofs.rooted_chain.Rooted.{as_many}
+use Rattle.cli_output.proofs.Reached.{root_reached}
 use Rattle.cli_proofs.specs.Exposing.{ledger_kept}
 use Rattle.cli_output.specs.cli_lines.Lines.{line}
 use Rattle.cli_output.specs.cli_lines.Outcome.{outcome_with}
 use Rattle.cli_output.specs.cli_lines.declared.outcome.Outcome.{Outcome}
 use Rattle.cli_output.specs.cli_lines.declared.outcome.Ending.TheVariants as endings
-use Rattle.cli_output.specs.Output.{beyond_head, prove_trace_outcome, made_trace_in}
+use Rattle.cli_output.specs.Output.{prove_trace_outcome, made_trace_in}
 use Rattle.cli_output.specs.Traces.{trace_proof_line}
-
--- the outcome if the chain has the block and the version is of no later one
-told_of : (key : List ℕ) (at root_at : ℕ) (blocks : List Block) → root_at < length blocks
-    → at ≤ root_at → prove_trace_outcome compiled_in key at root_at blocks
-    ≡ outcome_with (trace_proof_line (made_trace_in compiled_in blocks key at root_at) ∷ [])
-    endings.Done
-told_of key at root_at blocks low early =
-    let done : Outcome =
-    outcome_with (trace_proof_line (made_trace_in compiled_in blocks key at root_at) ∷ [])
-    endings.Done in
-    let fits : leb at root_at && ltb root_at (length blocks) ≡ true = grind (arith, nat_tests) in
-    ap (λ (b : Bool). cond b done (beyond_head blocks)) fits
 
 -- the proof that is made of what is kept of a chain is that of its blocks
 made_is : (kept : ChainState) (blocks : List Block) (key : List ℕ) (at root_at : ℕ)
@@ -62,4 +49,4 @@ proved_told ledger kept key at root_at bytes told outcome same (low, early) spel
     (is ∙ ap (λ (b : List ℕ). line (encode_lower b))
     (spelled ∙ ap (λ (proof : TraceProof). concat (trace_fields proof))
     (of_kept ∙ made_is kept blocks key at root_at stands)))
-    ∙ sym (told_of key at root_at blocks (omega (arith, low, count)) early)
+    ∙ sym (root_reached at root_at blocks _ (omega (arith, low, count)) early)

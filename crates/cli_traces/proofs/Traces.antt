@@ -1,7 +1,5 @@
 -- The output of `trace` over the blocks of a log, by cases.
-use Rattle.std.proofs.Common.{◌≡◌, ℕ, ◌-◌, ◌<◌, Bool, true, false, cond, eqb, ltb, List, length}
-use Rattle.std.proofs.Common.{Option, Some, None, sym, ap, ◌∙◌, arith}
-use Rattle.std.proofs.lemmas.Bool.Decides.{nat_tests}
+use Rattle.std.proofs.Common.{◌≡◌, ℕ, ◌<◌, List, length, Option, sym, ap, ◌∙◌, arith}
 use Rattle.block_codec.specs.declared.block.Block.{Block}
 use Rattle.row_ancestors.specs.declared.trace.Trace.{Trace}
 use Rattle.row_ancestors.specs.Ancestors.{trace_at}
@@ -10,23 +8,13 @@ use Rattle.chain_exec.specs.Effect.{History}
 use Rattle.cli_output.specs.chain_replay.Chain.{ChainState, StandsFor}
 use Rattle.merkle_dag.specs.Ledger.{Ledger}
 use Rattle.cli_output.proofs.rooted_chain.Rooted.{as_many}
+use Rattle.cli_output.proofs.Reached.{block_reached}
 use Rattle.cli_proofs.specs.Exposing.{ledger_kept}
 use Rattle.cli_output.specs.cli_lines.Lines.{trace_lines}
 use Rattle.cli_output.specs.cli_lines.Outcome.{outcome_with}
 use Rattle.cli_output.specs.cli_lines.declared.outcome.Outcome.{Outcome}
 use Rattle.cli_output.specs.cli_lines.declared.outcome.Ending.TheVariants as endings
-use Rattle.cli_output.specs.Output.{beyond_outcome, outcome_at, trace_outcome}
-
--- the chain has the block
-told_of : (at : ℕ) (blocks : List Block) (lines : List (List ℕ)) → at < length blocks
-    → outcome_at at blocks lines ≡ outcome_with lines endings.Done
-told_of at blocks lines low =
-    let past : Outcome = beyond_outcome (Some (length blocks - 1)) in
-    let done : Outcome = outcome_with lines endings.Done in
-    let some : eqb (length blocks) 0 ≡ false = grind (arith, nat_tests) in
-    let fits : ltb at (length blocks) ≡ true = grind (arith, nat_tests) in
-    ap (λ (b : Bool). cond b (beyond_outcome None) (cond (ltb at (length blocks)) done past)) some
-    ∙ ap (λ (b : Bool). cond b done past) fits
+use Rattle.cli_output.specs.Output.{trace_outcome}
 
 -- what is printed for the version that was found
 pub trace_told : (ledger : Ledger) (kept : ChainState) (key : List ℕ) (at : ℕ)
@@ -42,4 +30,4 @@ trace_told ledger kept key at trace lines outcome same low found lines_are made 
     let replayed = ap (λ (history : History). trace_at history.rows key at) stands.history_is in
     made ∙ ap (λ (ls : List (List ℕ)). outcome_with ls endings.Done)
     (lines_are ∙ ap trace_lines (found ∙ rows ∙ replayed))
-    ∙ sym (told_of at blocks _ (omega (arith, low, count)))
+    ∙ sym (block_reached at blocks _ (omega (arith, low, count)))

@@ -17,10 +17,10 @@ use Rattle.cli_words.specs.declared.words.BlockVersion.{BlockVersion}
 use Rattle.cli_words.specs.declared.words.BlockVersion.TheVariants as versions
 use Rattle.cli_words.specs.declared.words.Generation.{Generation}
 use Rattle.cli_words.specs.declared.words.Command.{Command}
-use Rattle.cli_words.specs.declared.words.Command.TheVariants.{Scan, Fmt, Pack, Gen, Load, Append, Upgrade, Root, Ask, Prove, Verify, Expose, Trace, ProveTrace, VerifyTrace}
-use Rattle.cli_words.specs.Words.{kind_word, query_words, scan_words, fmt_words, pack_words, generation_words, ask_words, root_words, prove_words, verify_words, expose_words, trace_words, prove_trace_words, verify_trace_words, command_words, IsQuery, IsGeneration, IsRootGiven, Fits, CanBeGiven, IsCommand, IsOneCommand}
+use Rattle.cli_words.specs.declared.words.Command.TheVariants.{Scan, Fmt, Pack, Gen, Load, Append, Upgrade, Root, Ask, Prove, Verify, Expose, Trace, ProveTrace, VerifyTrace, Range, ProveRange, VerifyRange}
+use Rattle.cli_words.specs.Words.{kind_word, query_words, scan_words, fmt_words, pack_words, generation_words, ask_words, root_words, prove_words, verify_words, expose_words, trace_words, prove_trace_words, verify_trace_words, range_words, prove_range_words, verify_range_words, command_words, IsQuery, IsGeneration, IsRootGiven, AreBlocks, Fits, CanBeGiven, IsCommand, IsOneCommand}
 
-one_number : (m n : ℕ) → m < 2 ^ 32 → n < 2 ^ 32 → decimal m ≡ decimal n → m ≡ n
+pub one_number : (m n : ℕ) → m < 2 ^ 32 → n < 2 ^ 32 → decimal m ≡ decimal n → m ≡ n
 one_number m n small fits same =
     decimal_injective m n (omega (arith, small)) (omega (arith, fits)) same
 
@@ -157,6 +157,50 @@ one_verify_trace m n x y i j is_a is_b same =
     ∙ ap (λ (key : List ℕ). VerifyTrace n key i) keys
     ∙ ap (VerifyTrace n y) (one_number i j is_a.2 is_b.2 asked)
 
+-- ranges have the same blocks if their words do
+one_pair : {A : Type 0} (make : ℕ → ℕ → A) (i j m n : ℕ) → AreBlocks i m → AreBlocks j n
+    → decimal i ≡ decimal j → decimal m ≡ decimal n → make i m ≡ make j n
+one_pair make i j m n is_a is_b first last =
+    let low : i < 2 ^ 32 = omega (arith, is_a.in_order, is_a.last_fits) in
+    let other : j < 2 ^ 32 = omega (arith, is_b.in_order, is_b.last_fits) in
+    ap (λ (from : ℕ). make from m) (one_number i j low other first)
+    ∙ ap (make j) (one_number m n is_a.last_fits is_b.last_fits last)
+
+one_range : (x y : List ℕ) (i j m n : ℕ) → IsKey x × AreBlocks i m → IsKey y × AreBlocks j n
+    → range_words x i m ≡ range_words y j n → Range x i m ≡ Range y j n
+one_range x y i j m n is_a is_b same =
+    let keys : x ≡ y = cc in
+    let first : decimal i ≡ decimal j = cc in
+    let last : decimal m ≡ decimal n = cc in
+    ap (λ (key : List ℕ). Range key i m) keys
+    ∙ one_pair (Range y) i j m n is_a.1 is_b.1 first last
+
+one_prove_range : (x y : List ℕ) (i j m n a b : ℕ) → IsKey x × AreBlocks i m × (a < 2 ^ 32)
+    → IsKey y × AreBlocks j n × (b < 2 ^ 32)
+    → prove_range_words x i m a ≡ prove_range_words y j n b
+    → ProveRange x i m a ≡ ProveRange y j n b
+one_prove_range x y i j m n a b is_a is_b same =
+    let keys : x ≡ y = cc in
+    let first : decimal i ≡ decimal j = cc in
+    let last : decimal m ≡ decimal n = cc in
+    let roots : decimal a ≡ decimal b = cc in
+    ap (λ (key : List ℕ). ProveRange key i m a) keys
+    ∙ one_pair (λ from to. ProveRange y from to a) i j m n is_a.1 is_b.1 first last
+    ∙ ap (ProveRange y j n) (one_number a b is_a.2 is_b.2 roots)
+
+one_verify_range : (a b : Digest) (x y : List ℕ) (i j m n : ℕ)
+    → IsRootGiven a × IsKey x × AreBlocks i m → IsRootGiven b × IsKey y × AreBlocks j n
+    → verify_range_words a x i m ≡ verify_range_words b y j n
+    → VerifyRange a x i m ≡ VerifyRange b y j n
+one_verify_range a b x y i j m n is_a is_b same =
+    let roots : encode_lower a.0 ≡ encode_lower b.0 = cc in
+    let keys : x ≡ y = cc in
+    let first : decimal i ≡ decimal j = cc in
+    let last : decimal m ≡ decimal n = cc in
+    ap (λ (root : Digest). VerifyRange root x i m) (one_digest a b is_a.0 is_b.0 roots)
+    ∙ ap (λ (key : List ℕ). VerifyRange b key i m) keys
+    ∙ one_pair (VerifyRange b y) i j m n is_a.2 is_b.2 first last
+
 -- ---- the form of a command, which its words tell
 
 data Form : Type 0 where
@@ -175,6 +219,9 @@ data Form : Type 0 where
   IsTraceForm : Form
   IsProveTraceForm : Form
   IsVerifyTraceForm : Form
+  IsRangeForm : Form
+  IsProveRangeForm : Form
+  IsVerifyRangeForm : Form
   NoForm : Form
 
 abbrev form_of : Command → Form
@@ -193,6 +240,9 @@ form_of (Expose root query root_at) = IsExposeForm
 form_of (Trace key at) = IsTraceForm
 form_of (ProveTrace key at root_at) = IsProveTraceForm
 form_of (VerifyTrace root key at) = IsVerifyTraceForm
+form_of (Range key from to) = IsRangeForm
+form_of (ProveRange key from to root_at) = IsProveRangeForm
+form_of (VerifyRange root key from to) = IsVerifyRangeForm
 
 abbrev is_word : List ℕ → List ℕ → Bool
 is_word word other = pointwise ◌==◌ word other
@@ -204,6 +254,15 @@ trace_form (word ∷ []) = NoForm
 trace_form (word ∷ second ∷ []) = IsTraceForm
 trace_form (word ∷ second ∷ third ∷ others) =
     if is_word word (codes "prove") then IsProveTraceForm else IsVerifyTraceForm
+
+-- by what follows the word `range`: a key and two blocks, or more, the first of which tells
+abbrev range_form : List (List ℕ) → Form
+range_form [] = NoForm
+range_form (word ∷ []) = NoForm
+range_form (word ∷ second ∷ []) = NoForm
+range_form (word ∷ second ∷ third ∷ []) = IsRangeForm
+range_form (word ∷ second ∷ third ∷ fourth ∷ others) =
+    if is_word word (codes "prove") then IsProveRangeForm else IsVerifyRangeForm
 
 -- by the first word; what is none of these is a kind of question
 abbrev form_by : List ℕ → List (List ℕ) → Form
@@ -220,7 +279,8 @@ form_by word others =
     else (if is_word word (codes "verify") then IsVerifyForm
     else (if is_word word (codes "expose") then IsExposeForm
     else (if is_word word (codes "trace") then trace_form others
-    else IsAskForm)))))))))))
+    else (if is_word word (codes "range") then range_form others
+    else IsAskForm))))))))))))
 
 abbrev form_in : List (List ℕ) → Form
 form_in [] = NoForm
@@ -250,6 +310,9 @@ form_is (Expose root query root_at) = refl
 form_is (Trace key at) = refl
 form_is (ProveTrace key at root_at) = refl
 form_is (VerifyTrace root key at) = refl
+form_is (Range key from to) = refl
+form_is (ProveRange key from to root_at) = refl
+form_is (VerifyRange root key from to) = refl
 
 -- a command of a form is that command
 abbrev HasForm : Form → Command → Type 0
@@ -272,6 +335,12 @@ HasForm IsProveTraceForm command =
     (key : List ℕ) × (at : ℕ) × (root_at : ℕ) × (command ≡ ProveTrace key at root_at)
 HasForm IsVerifyTraceForm command =
     (root : Digest) × (key : List ℕ) × (at : ℕ) × (command ≡ VerifyTrace root key at)
+HasForm IsRangeForm command =
+    (key : List ℕ) × (from : ℕ) × (to : ℕ) × (command ≡ Range key from to)
+HasForm IsProveRangeForm command = (key : List ℕ) × (from : ℕ) × (to : ℕ) × (root_at : ℕ)
+    × (command ≡ ProveRange key from to root_at)
+HasForm IsVerifyRangeForm command = (root : Digest) × (key : List ℕ) × (from : ℕ) × (to : ℕ)
+    × (command ≡ VerifyRange root key from to)
 HasForm NoForm command = ⊥
 
 has_form : (command : Command) → HasForm (form_of command) command
@@ -290,6 +359,9 @@ has_form (Expose root query root_at) = (root, query, root_at, refl)
 has_form (Trace key at) = (key, at, refl)
 has_form (ProveTrace key at root_at) = (key, at, root_at, refl)
 has_form (VerifyTrace root key at) = (root, key, at, refl)
+has_form (Range key from to) = (key, from, to, refl)
+has_form (ProveRange key from to root_at) = (key, from, to, root_at, refl)
+has_form (VerifyRange root key from to) = (root, key, from, to, refl)
 
 -- ---- commands with the same words are one
 
@@ -325,6 +397,13 @@ one_of_form (ProveTrace x i m) b (y, j, n, is) = subst (AreOne (ProveTrace x i m
     (λ is_a is_b same. one_prove_trace x y i j m n is_a is_b same)
 one_of_form (VerifyTrace m x i) b (n, y, j, is) = subst (AreOne (VerifyTrace m x i)) (sym is)
     (λ is_a is_b same. one_verify_trace m n x y i j is_a is_b same)
+one_of_form (Range x i m) b (y, j, n, is) = subst (AreOne (Range x i m)) (sym is)
+    (λ is_a is_b same. one_range x y i j m n is_a is_b same)
+one_of_form (ProveRange x i m r) b (y, j, n, s, is) = subst (AreOne (ProveRange x i m r)) (sym is)
+    (λ is_a is_b same. one_prove_range x y i j m n r s is_a is_b same)
+one_of_form (VerifyRange r x i m) b (s, y, j, n, is) =
+    subst (AreOne (VerifyRange r x i m)) (sym is)
+    (λ is_a is_b same. one_verify_range r s x y i j m n is_a is_b same)
 
 one_given : (a b : Command) → AreOne a b
 one_given a b is_a is_b same =

@@ -15,6 +15,7 @@ use Rattle.cli_words.specs.declared.words.Generation.{Generation}
 use Rattle.cli_words.specs.declared.words.Command.{Command}
 use Rattle.cli_words.specs.declared.words.Command.TheVariants.{Scan, Fmt, Pack, Gen, Load, Append, Upgrade, Root, Ask, Prove, Verify, Expose}
 use Rattle.cli_words.specs.declared.words.Command.TheVariants.{Trace, ProveTrace, VerifyTrace}
+use Rattle.cli_words.specs.declared.words.Command.TheVariants.{Range, ProveRange, VerifyRange}
 
 -- The word for a kind of question.
 abbrev pub kind_word : Kind → List ℕ
@@ -105,6 +106,28 @@ abbrev pub verify_trace_words : Digest → List ℕ → ℕ → List (List ℕ)
 verify_trace_words root key at =
     codes "trace" ∷ codes "verify" ∷ encode_lower root.0 ∷ key ∷ decimal at ∷ []
 
+-- The words of the command for all versions between two blocks: range KEY FROM TO, both numbers in
+-- decimal digits without a leading zero.
+abbrev pub range_words : List ℕ → ℕ → ℕ → List (List ℕ)
+range_words key from to = codes "range" ∷ key ∷ decimal from ∷ decimal to ∷ []
+
+-- The words of the command for a proof of them: range prove KEY FROM TO ROOTBLOCK, all numbers in
+-- decimal digits without a leading zero.
+abbrev pub prove_range_words : List ℕ → ℕ → ℕ → ℕ → List (List ℕ)
+prove_range_words key from to root_at =
+    codes "range" ∷ codes "prove" ∷ key ∷ decimal from ∷ decimal to ∷ decimal root_at ∷ []
+
+-- The words of the command that verifies such a proof: range verify ROOT KEY FROM TO, ROOT in
+-- lower-case hex, both numbers in decimal digits without a leading zero.
+abbrev pub verify_range_words : Digest → List ℕ → ℕ → ℕ → List (List ℕ)
+verify_range_words root key from to =
+    codes "range" ∷ codes "verify" ∷ encode_lower root.0 ∷ key ∷ decimal from ∷ decimal to ∷ []
+
+-- The first block and the last one of a range, in this order: numbers of 32 bits.
+pub record AreBlocks (from to : ℕ) : Type 0 where
+  pub in_order : from ≤ to
+  pub last_fits : to < 2 ^ 32
+
 -- A root that words can spell: 32 bytes.
 pub record IsRootGiven (root : Digest) : Type 0 where
   pub length_is : length root.0 ≡ 32
@@ -132,9 +155,13 @@ command_words (Expose root query root_at) = expose_words root query root_at
 command_words (Trace key at) = trace_words key at
 command_words (ProveTrace key at root_at) = prove_trace_words key at root_at
 command_words (VerifyTrace root key at) = verify_trace_words root key at
+command_words (Range key from to) = range_words key from to
+command_words (ProveRange key from to root_at) = prove_range_words key from to root_at
+command_words (VerifyRange root key from to) = verify_range_words root key from to
 
 -- A command that words can spell: its keys are keys, its numbers have 32 bits, its roots have 32
--- bytes, and a generation makes a number of blocks that may be made at once.
+-- bytes, a generation makes a number of blocks that may be made at once, and the first block of a
+-- range isn't after the last one.
 abbrev pub CanBeGiven : Command → Type 0
 CanBeGiven (Scan query) = IsQuery query
 CanBeGiven (Fmt edition) = Unit {0}
@@ -151,6 +178,9 @@ CanBeGiven (Expose root query root_at) = IsRootGiven root × IsQuery query × (r
 CanBeGiven (Trace key at) = IsKey key × (at < 2 ^ 32)
 CanBeGiven (ProveTrace key at root_at) = IsKey key × (at < 2 ^ 32) × (root_at < 2 ^ 32)
 CanBeGiven (VerifyTrace root key at) = IsRootGiven root × IsKey key × (at < 2 ^ 32)
+CanBeGiven (Range key from to) = IsKey key × AreBlocks from to
+CanBeGiven (ProveRange key from to root_at) = IsKey key × AreBlocks from to × (root_at < 2 ^ 32)
+CanBeGiven (VerifyRange root key from to) = IsRootGiven root × IsKey key × AreBlocks from to
 
 -- The command that the words are, or None if no command has these words.
 abbrev pub IsCommand : List (List ℕ) → Option Command → Type 0
@@ -233,6 +263,24 @@ IsVerifyTrace words (Some command) = CanBeGiven command × (words ≡ command_wo
 IsVerifyTrace words None = (root : Digest) (key : List ℕ) (at : ℕ) → IsRootGiven root → IsKey key
     → at < 2 ^ 32 → words ≡ verify_trace_words root key at → ⊥
 
+-- The command for all versions between two blocks; None if the words are not those of one.
+abbrev pub IsRange : List (List ℕ) → Option Command → Type 0
+IsRange words (Some command) = CanBeGiven command × (words ≡ command_words command)
+IsRange words None = (key : List ℕ) (from to : ℕ) → IsKey key → AreBlocks from to
+    → words ≡ range_words key from to → ⊥
+
+-- The command for a proof of them; None if the words are not those of one.
+abbrev pub IsProveRange : List (List ℕ) → Option Command → Type 0
+IsProveRange words (Some command) = CanBeGiven command × (words ≡ command_words command)
+IsProveRange words None = (key : List ℕ) (from to root_at : ℕ) → IsKey key → AreBlocks from to
+    → root_at < 2 ^ 32 → words ≡ prove_range_words key from to root_at → ⊥
+
+-- The command that verifies such a proof; None if the words are not those of one.
+abbrev pub IsVerifyRange : List (List ℕ) → Option Command → Type 0
+IsVerifyRange words (Some command) = CanBeGiven command × (words ≡ command_words command)
+IsVerifyRange words None = (root : Digest) (key : List ℕ) (from to : ℕ) → IsRootGiven root
+    → IsKey key → AreBlocks from to → words ≡ verify_range_words root key from to → ⊥
+
 -- Whether this is the only word.
 abbrev pub IsAlone : List ℕ → List (List ℕ) → Bool → Type 0
 IsAlone word words true = words ≡ word ∷ []
@@ -255,6 +303,13 @@ IsNumberOf text None = (number : ℕ) → number < 2 ^ 32 → text ≡ decimal n
 abbrev pub IsCountOf : List ℕ → Option ℕ → Type 0
 IsCountOf text (Some blocks) = IsCount blocks × (text ≡ decimal blocks)
 IsCountOf text None = (blocks : ℕ) → IsCount blocks → text ≡ decimal blocks → ⊥
+
+-- The first block and the last one of a range that two texts spell; None if they spell none.
+abbrev pub AreBlocksOf : List ℕ → List ℕ → Option (ℕ × ℕ) → Type 0
+AreBlocksOf first last (Some blocks) =
+    AreBlocks blocks.0 blocks.1 × (first ≡ decimal blocks.0) × (last ≡ decimal blocks.1)
+AreBlocksOf first last None =
+    (from to : ℕ) → AreBlocks from to → first ≡ decimal from → last ≡ decimal to → ⊥
 
 -- The key that a text is; None if it is no key.
 abbrev pub IsKeyOf : List ℕ → Option (List ℕ) → Type 0

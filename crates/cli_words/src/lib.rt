@@ -5,6 +5,7 @@ mod formatting;
 mod packing;
 mod proving;
 mod questions;
+mod ranging;
 mod single;
 mod tracing;
 mod words;

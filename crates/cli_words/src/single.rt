@@ -1,7 +1,7 @@
 //! Reading single words: a number, key, kind or digest has one spelling only.
 
 ghost use Rattle.std.specs.Prelude.{◌≡◌, ◌↔◌, IsTrue};
-ghost use Rattle.cli_words.specs.Words.{IsKindOf, IsKeyOf, IsNumberOf, IsCount, IsCountOf, IsDigestOf, starts_as_number};
+ghost use Rattle.cli_words.specs.Words.{IsKindOf, IsKeyOf, IsNumberOf, IsCount, IsCountOf, AreBlocksOf, IsDigestOf, starts_as_number};
 ghost use Rattle.hex.specs.Hex.{encode_lower};
 
 use crate::words::MAX_GENERATED_BLOCKS;
@@ -53,6 +53,19 @@ pub(crate) fn count_of(text: &str) -> Option<u32>
         return None;
     }
     Some(number)
+}
+
+/// The first block and the last one of a range that the texts spell; `None` if one of them spells no
+/// number, or the first block is after the last one.
+pub(crate) fn blocks_of(from: &str, to: &str) -> Option<(u32, u32)>
+    ensures { AreBlocksOf from.now to.now result }
+{
+    let from = number_of(from)?;
+    let to = number_of(to)?;
+    if to < from {
+        return None;
+    }
+    Some((from, to))
 }
 
 /// The key that the text is; `None` if it is no key.

@@ -7,6 +7,7 @@ use crate::formatting::fmt_of;
 use crate::packing::pack_of;
 use crate::proving::{expose_of, prove_of, verify_of};
 use crate::questions::{ask_of, root_of, scan_of};
+use crate::ranging::{prove_range_of, range_of, verify_range_of};
 use crate::single::{count_of, is_text, number_of};
 use crate::tracing::{prove_trace_of, trace_of, verify_trace_of};
 use lc_base::{Digest, Key, Kind, Query};
@@ -108,6 +109,29 @@ pub enum Command {
         key: Key,
         at: u32,
     },
+    /// `range KEY FROM TO`: print all versions of a key between two blocks of the log, both
+    /// included; FROM is at most TO.
+    Range {
+        key: Key,
+        from: u32,
+        to: u32,
+    },
+    /// `range prove KEY FROM TO ROOTBLOCK`: print a proof of them, for one who has the root at
+    /// ROOTBLOCK.
+    ProveRange {
+        key: Key,
+        from: u32,
+        to: u32,
+        root_at: u32,
+    },
+    /// `range verify ROOT KEY FROM TO`: check the proof that the input is, in hex, and print the
+    /// versions that it shows.
+    VerifyRange {
+        root: Digest,
+        key: Key,
+        from: u32,
+        to: u32,
+    },
 }
 
 /// The blocks of the words `WORD N SEED`; `None` exactly if the words are not of this form.
@@ -192,6 +216,15 @@ fn parse_command(words: &[String]) -> Option<Command>
         return Some(command);
     }
     if let Some(command) = verify_trace_of(words) {
+        return Some(command);
+    }
+    if let Some(command) = range_of(words) {
+        return Some(command);
+    }
+    if let Some(command) = prove_range_of(words) {
+        return Some(command);
+    }
+    if let Some(command) = verify_range_of(words) {
         return Some(command);
     }
     match root_of(words) {

@@ -1,5 +1,6 @@
-//! Tests of lineages that are read over scratch devices: what they answer, which lists they hold,
-//! which bodies are read from the device, and that its faults are reported.
+//! Tests of lineages that are read over scratch devices: what they answer, how many versions they
+//! look at for it, which lists they hold, which bodies are read from the device, and that its
+//! faults are reported.
 #![tactic(auto)]
 
 #[cfg(test)]
@@ -16,3 +17,5 @@ mod lineages;
 mod lists;
 #[cfg(test)]
 mod long;
+#[cfg(test)]
+mod ranges;

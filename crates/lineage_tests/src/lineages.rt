@@ -20,7 +20,7 @@ use std::alloc::Global;
 
 /// Room for the calls of each test.
 pub(crate) const ROOM: Room = Room {
-    calls: 100_000,
+    calls: 200_000,
     bytes: 10_000_000,
 };
 
@@ -59,6 +59,14 @@ pub(crate) fn add_block_of(
     };
     let bytes = encode(alloc, &block).ok()?;
     blocks.push(bytes).ok()
+}
+
+/// Adds the bytes of the next block, of the first version, which writes its number to the key.
+pub(crate) fn add_numbered_block(alloc: Global, blocks: &mut TextList, key: Key) -> Option<()> {
+    let number = i64::try_from(blocks.len()).ok()?;
+    let mut txs = TxList::new(alloc);
+    txs.push(set(alloc, key, number)?).ok()?;
+    add_block(alloc, blocks, txs)
 }
 
 /// The chain with one more block; `None` if these bytes aren't its next block, or if the device

@@ -3,8 +3,7 @@
 ghost use Rattle.std.specs.Prelude.{◌<◌, ◌≤◌};
 ghost use Rattle.merkle_dag.specs.Lineage.{AgreesWith};
 
-use crate::lineages::{add_block, int_at, lineage_in_memory, set};
-use block_codec::TxList;
+use crate::lineages::{add_numbered_block, int_at, lineage_in_memory};
 use lc_base::{Key, TextList};
 use lineage_store::Steps;
 use merkle_dag::Lineage;
@@ -12,7 +11,7 @@ use scratch_model::Scratch;
 use std::alloc::Global;
 
 /// The number of blocks, each of which writes the key.
-const BLOCKS: u32 = 65_536;
+pub(crate) const BLOCKS: u32 = 65_536;
 
 /// The first block that is asked about.
 const FIRST: u32 = 32_256;
@@ -30,10 +29,8 @@ const MOST_STEPS: u64 = 34;
 /// The blocks, each of which writes its number to the key.
 pub(crate) fn numbered_blocks(alloc: Global, key: Key) -> Option<TextList> {
     let mut blocks = TextList::new(alloc);
-    for number in 0..BLOCKS {
-        let mut txs = TxList::new(alloc);
-        txs.push(set(alloc, key, i64::from(number))?).ok()?;
-        add_block(alloc, &mut blocks, txs)?;
+    for _ in 0..BLOCKS {
+        add_numbered_block(alloc, &mut blocks, key)?;
     }
     Some(blocks)
 }

@@ -46,13 +46,13 @@ all_taken bytes range fits (Ok read) e got =
 all_taken bytes range fits (Err left) e got = absurd cc
 
 -- What is read is spelled by the bytes.
-is_spelled : (bytes : List ℕ) (range : RangeProof) → IsBytes bytes → range_in bytes ≡ Ok range
+pub is_spelled : (bytes : List ℕ) (range : RangeProof) → IsBytes bytes → range_in bytes ≡ Ok range
     → SpellsRange bytes range
 unfolding range_in
 is_spelled bytes range fits e = all_taken bytes range fits (range_at bytes) refl e
 
 -- What the bytes spell is read.
-is_read : (bytes : List ℕ) (range : RangeProof) → SpellsRange bytes range
+pub is_read : (bytes : List ℕ) (range : RangeProof) → SpellsRange bytes range
     → range_in bytes ≡ Ok range
 unfolding range_in
 is_read bytes range is =

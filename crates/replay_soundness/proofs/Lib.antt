@@ -3,6 +3,7 @@ pub mod Logs
 pub mod Inputs
 pub mod Sound
 pub mod Traced
+pub mod Ranged
 pub mod Values
 pub mod Keeping
 pub mod Reading

@@ -1,6 +1,7 @@
 pub mod Chains
 pub mod Soundness
 pub mod Traces
+pub mod Ranges
 pub mod Literals
 pub mod TypedChains
 pub mod TypedLaws

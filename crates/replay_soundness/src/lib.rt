@@ -3,12 +3,14 @@
 #![tactic(auto)]
 
 mod chains;
+mod ranges;
 mod refuted;
 mod soundness;
 mod traces;
 mod typed_laws;
 
 pub use chains::{inputs_add_to_chains, inputs_add_to_logs, inputs_hold_chains, logs_hold_chains};
+pub use ranges::accepted_ranges_are_of_replays;
 pub use refuted::{compilers_matter, limits_matter, places_matter};
 pub use soundness::{
     accepted_answers_agree, accepted_proofs_answer_as_logs, accepted_proofs_answer_as_replays,

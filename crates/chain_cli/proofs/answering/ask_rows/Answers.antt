@@ -3,13 +3,18 @@ use Rattle.cli_words.specs.declared.words.Command.TheVariants.{Ask}
 use Rattle.cli_output.specs.declared.stop.OutcomeStop.{OutcomeStop}
 use Rattle.cli_output.proofs.Ends.{asked_ends, no_start_ends}
 use Rattle.cli_output.proofs.Found.{asked_found, no_start_found}
-use Rattle.chain_cli.proofs.Runs.{ask_over}
+use Rattle.cli_append.specs.chain_exec.Compiled.{compiled_in}
+use Rattle.cli_output.specs.Output.{answer_outcome, at_or_last}
+use Rattle.chain_cli.proofs.Runs.{asked_over}
 use Rattle.chain_cli.proofs.answering.ask_rows.Goals as goal
 
 pub returns-in_ok-ask_outcome-in-Ok-clause-found : goal.returns-in_ok-ask_outcome-in-Ok-clause-found
 returns-in_ok-ask_outcome-in-Ok-clause-found g c left held =
     asked_found (g.M.Clock.disk c.args.machine.now (g.M.Clock.now c.args.machine.now)) (Ask c.args.kind c.args.key c.args.at) c.in-Ok.chain (Ok c.in_ok-ask_outcome-in-Ok.field-0) left left held refl (λ heard. c.in-Ok.ensures.answer)
-    (λ heard. ask_over c.in-Ok.chain (Ok c.in_ok-ask_outcome-in-Ok.field-0) c.args.kind c.args.key c.args.at left c.in_ok-ask_outcome-in-Ok.ensures.outcome)
+    (λ heard. asked_over c.in-Ok.chain (Ok c.in_ok-ask_outcome-in-Ok.field-0)
+    (λ blocks. answer_outcome compiled_in (record
+    { kind = c.args.kind; key = c.args.key; at = at_or_last c.args.at blocks }) blocks)
+    left c.in_ok-ask_outcome-in-Ok.ensures.outcome)
 
 pub returns-in-Err-clause-found : goal.returns-in-Err-clause-found
 returns-in-Err-clause-found g c left held =

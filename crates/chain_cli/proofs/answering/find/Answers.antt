@@ -1,11 +1,11 @@
 use Rattle.std.proofs.Common.{Some, refl}
 use Rattle.scratch_model.specs.Scratch.{is_known}
 use Rattle.cli_words.specs.declared.words.Command.TheVariants.{Scan, Fmt, Pack, Load, Ask, Verify}
-use Rattle.cli_words.specs.declared.words.Command.TheVariants.{VerifyTrace}
+use Rattle.cli_words.specs.declared.words.Command.TheVariants.{VerifyTrace, VerifyRange}
 use Rattle.cli_output.specs.Telling.{status_of_found}
 use Rattle.chain_cli.proofs.Ends.{read_ends, load_ends, of_given, found_log, is_count}
 use Rattle.chain_cli.proofs.Runs.{scan_found, fmt_found, pack_found, verify_found, load_found}
-use Rattle.chain_cli.proofs.Runs.{verify_trace_found, of_found}
+use Rattle.chain_cli.proofs.Runs.{verify_trace_found, verify_range_found, of_found}
 use Rattle.chain_cli.proofs.answering.find.Goals as goal
 
 pub returns-in-Scan-clause-found : goal.returns-in-Scan-clause-found
@@ -81,6 +81,36 @@ returns-in-VerifyTrace-clause-no_log g c none =
     (VerifyTrace c.in-VerifyTrace.root c.in-VerifyTrace.key c.in-VerifyTrace.at) refl
     (read_ends c.verify_trace.result (Some (VerifyTrace c.in-VerifyTrace.root c.in-VerifyTrace.key
     c.in-VerifyTrace.at)) refl c.verify_trace.ensures.ends c.verify_trace.ensures.only) none)
+
+pub returns-in-VerifyRange-clause-found : goal.returns-in-VerifyRange-clause-found
+returns-in-VerifyRange-clause-found g c =
+    of_found (g.M.Clock.disk c.args.machine.now (g.M.Clock.now c.args.machine.now))
+    c.verify_range.result (g.I.Source.left c.args.source.now)
+    (g.I.Source.left c.verify_range.new.source) (is_known (g.S.Scratch.state c.args.scratch.now))
+    c.args.command.now (VerifyRange c.in-VerifyRange.root c.in-VerifyRange.key c.in-VerifyRange.from
+    c.in-VerifyRange.to) c.in-VerifyRange.is
+    (verify_range_found (g.M.Clock.disk c.args.machine.now (g.M.Clock.now c.args.machine.now))
+    c.verify_range.result (g.I.Source.left c.args.source.now)
+    (g.I.Source.left c.verify_range.new.source) (is_known (g.S.Scratch.state c.args.scratch.now))
+    c.in-VerifyRange.root c.in-VerifyRange.key c.in-VerifyRange.from c.in-VerifyRange.to
+    c.verify_range.ensures.outcome)
+
+pub returns-in-VerifyRange-clause-ends : goal.returns-in-VerifyRange-clause-ends
+returns-in-VerifyRange-clause-ends g c = of_given (status_of_found c.verify_range.result)
+    c.args.command.now (VerifyRange c.in-VerifyRange.root c.in-VerifyRange.key c.in-VerifyRange.from
+    c.in-VerifyRange.to) c.in-VerifyRange.is
+    (read_ends c.verify_range.result (Some (VerifyRange c.in-VerifyRange.root c.in-VerifyRange.key
+    c.in-VerifyRange.from c.in-VerifyRange.to)) refl c.verify_range.ensures.ends
+    c.verify_range.ensures.only)
+
+pub returns-in-VerifyRange-clause-no_log : goal.returns-in-VerifyRange-clause-no_log
+returns-in-VerifyRange-clause-no_log g c none =
+    absurd (found_log (status_of_found c.verify_range.result)
+    (VerifyRange c.in-VerifyRange.root c.in-VerifyRange.key c.in-VerifyRange.from
+    c.in-VerifyRange.to) refl
+    (read_ends c.verify_range.result (Some (VerifyRange c.in-VerifyRange.root c.in-VerifyRange.key
+    c.in-VerifyRange.from c.in-VerifyRange.to)) refl c.verify_range.ensures.ends
+    c.verify_range.ensures.only) none)
 
 pub load_outcome-requires : goal.load_outcome-requires
 load_outcome-requires g c =

@@ -1,19 +1,26 @@
 use Rattle.std.proofs.Common.{Some, Ok, refl}
 use Rattle.cli_words.specs.declared.words.Command.TheVariants.{Root, Prove, Expose}
 use Rattle.cli_words.specs.declared.words.Command.TheVariants.{Trace, ProveTrace}
+use Rattle.cli_words.specs.declared.words.Command.TheVariants.{Range, ProveRange}
+use Rattle.cli_append.specs.chain_exec.Compiled.{compiled_in}
+use Rattle.cli_output.specs.Output.{root_outcome, prove_outcome, trace_outcome}
+use Rattle.cli_output.specs.Output.{prove_trace_outcome, range_outcome, prove_range_outcome}
+use Rattle.cli_output.specs.Output.{at_or_last}
 use Rattle.cli_output.specs.Telling.{status_of_found}
 use Rattle.cli_output.specs.declared.stop.OutcomeStop.{OutcomeStop}
 use Rattle.cli_output.proofs.Ends.{asked_ends, may_end}
 use Rattle.cli_proofs.proofs.Exposes.{outcome_may, asked_has_log, found_has_log}
-use Rattle.chain_cli.proofs.Ends.{of_given}
-use Rattle.chain_cli.proofs.Runs.{root_over, prove_over, trace_over, prove_trace_over, expose_over}
-use Rattle.chain_cli.proofs.Runs.{of_over}
+use Rattle.chain_cli.proofs.Ends.{of_given, lineage_ends, in_order, proved_in_order}
+use Rattle.chain_cli.proofs.Runs.{asked_over, expose_over, of_over}
 use Rattle.chain_cli.proofs.answering.lineage_outcome.Goals as goal
 
 pub returns-in_ok-root_outcome-in-Root-clause-found : goal.returns-in_ok-root_outcome-in-Root-clause-found
 returns-in_ok-root_outcome-in-Root-clause-found g c held kept same =
-    of_over kept (Ok c.in_ok-root_outcome-in-Root.field-0) (g.I.Source.left c.args.source.now) (g.I.Source.left c.args.source.now) c.args.command.now (Root c.in-Root.at) c.in-Root.is
-    (root_over kept (Ok c.in_ok-root_outcome-in-Root.field-0) c.in-Root.at (g.I.Source.left c.args.source.now) (c.in_ok-root_outcome-in-Root.ensures.outcome kept same))
+    of_over kept (Ok c.in_ok-root_outcome-in-Root.field-0) (g.I.Source.left c.args.source.now)
+    (g.I.Source.left c.args.source.now) c.args.command.now (Root c.in-Root.at) c.in-Root.is
+    (asked_over kept (Ok c.in_ok-root_outcome-in-Root.field-0)
+    (λ blocks. root_outcome compiled_in (at_or_last c.in-Root.at blocks) blocks)
+    (g.I.Source.left c.args.source.now) (c.in_ok-root_outcome-in-Root.ensures.outcome kept same))
 
 pub returns-in_ok-root_outcome-in-Root-clause-ends : goal.returns-in_ok-root_outcome-in-Root-clause-ends
 returns-in_ok-root_outcome-in-Root-clause-ends g c = of_given (status_of_found (Ok c.in_ok-root_outcome-in-Root.field-0)) c.args.command.now (Root c.in-Root.at) c.in-Root.is
@@ -24,12 +31,17 @@ returns-in_ok-root_outcome-in-Root-clause-has_log g c = asked_has_log (Ok c.in_o
 
 pub returns-in-Prove-clause-found : goal.returns-in-Prove-clause-found
 returns-in-Prove-clause-found g c held kept same =
-    of_over kept c.prove.result (g.I.Source.left c.args.source.now) (g.I.Source.left c.args.source.now) c.args.command.now (Prove c.in-Prove.query c.in-Prove.root_at) c.in-Prove.is
-    (prove_over kept c.prove.result c.in-Prove.query c.in-Prove.root_at (g.I.Source.left c.args.source.now) (c.prove.ensures.outcome held kept same))
+    of_over kept c.prove.result (g.I.Source.left c.args.source.now)
+    (g.I.Source.left c.args.source.now) c.args.command.now
+    (Prove c.in-Prove.query c.in-Prove.root_at) c.in-Prove.is
+    (asked_over kept c.prove.result
+    (prove_outcome compiled_in c.in-Prove.query c.in-Prove.root_at)
+    (g.I.Source.left c.args.source.now) (c.prove.ensures.outcome held kept same))
 
 pub returns-in-Prove-clause-ends : goal.returns-in-Prove-clause-ends
-returns-in-Prove-clause-ends g c = of_given (status_of_found c.prove.result) c.args.command.now (Prove c.in-Prove.query c.in-Prove.root_at) c.in-Prove.is
-    (may_end c.prove.result (Some (Prove c.in-Prove.query c.in-Prove.root_at)) (asked_ends c.prove.result (Some (Prove c.in-Prove.query c.in-Prove.root_at)) refl c.prove.ensures.ends) (λ e. absurd (c.prove.ensures.reads e)) (λ e. refl) (λ e. refl))
+returns-in-Prove-clause-ends g c = lineage_ends c.prove.result c.args.command.now
+    (Prove c.in-Prove.query c.in-Prove.root_at) c.in-Prove.is refl
+    c.prove.ensures.ends c.prove.ensures.reads
 
 pub returns-in-Prove-clause-has_log : goal.returns-in-Prove-clause-has_log
 returns-in-Prove-clause-has_log g c = asked_has_log c.prove.result c.prove.ensures.ends
@@ -37,17 +49,16 @@ returns-in-Prove-clause-has_log g c = asked_has_log c.prove.result c.prove.ensur
 pub returns-in-Trace-clause-found : goal.returns-in-Trace-clause-found
 returns-in-Trace-clause-found g c held kept same =
     of_over kept c.trace.result (g.I.Source.left c.args.source.now)
-    (g.I.Source.left c.args.source.now) c.args.command.now (Trace c.in-Trace.key c.in-Trace.at)
-    c.in-Trace.is
-    (trace_over kept c.trace.result c.in-Trace.key c.in-Trace.at (g.I.Source.left c.args.source.now)
-    (c.trace.ensures.outcome held kept same))
+    (g.I.Source.left c.args.source.now) c.args.command.now
+    (Trace c.in-Trace.key c.in-Trace.at) c.in-Trace.is
+    (asked_over kept c.trace.result
+    (trace_outcome compiled_in c.in-Trace.key c.in-Trace.at)
+    (g.I.Source.left c.args.source.now) (c.trace.ensures.outcome held kept same))
 
 pub returns-in-Trace-clause-ends : goal.returns-in-Trace-clause-ends
-returns-in-Trace-clause-ends g c = of_given (status_of_found c.trace.result) c.args.command.now
-    (Trace c.in-Trace.key c.in-Trace.at) c.in-Trace.is
-    (may_end c.trace.result (Some (Trace c.in-Trace.key c.in-Trace.at))
-    (asked_ends c.trace.result (Some (Trace c.in-Trace.key c.in-Trace.at)) refl
-    c.trace.ensures.ends) (λ e. absurd (c.trace.ensures.reads e)) (λ e. refl) (λ e. refl))
+returns-in-Trace-clause-ends g c = lineage_ends c.trace.result c.args.command.now
+    (Trace c.in-Trace.key c.in-Trace.at) c.in-Trace.is refl
+    c.trace.ensures.ends c.trace.ensures.reads
 
 pub returns-in-Trace-clause-has_log : goal.returns-in-Trace-clause-has_log
 returns-in-Trace-clause-has_log g c = asked_has_log c.trace.result c.trace.ensures.ends
@@ -57,23 +68,66 @@ returns-in-ProveTrace-clause-found g c held kept same =
     of_over kept c.prove_trace.result (g.I.Source.left c.args.source.now)
     (g.I.Source.left c.args.source.now) c.args.command.now
     (ProveTrace c.in-ProveTrace.key c.in-ProveTrace.at c.in-ProveTrace.root_at) c.in-ProveTrace.is
-    (prove_trace_over kept c.prove_trace.result c.in-ProveTrace.key c.in-ProveTrace.at
-    c.in-ProveTrace.root_at (g.I.Source.left c.args.source.now)
-    (c.prove_trace.ensures.outcome held kept same))
+    (asked_over kept c.prove_trace.result
+    (prove_trace_outcome compiled_in c.in-ProveTrace.key c.in-ProveTrace.at c.in-ProveTrace.root_at)
+    (g.I.Source.left c.args.source.now) (c.prove_trace.ensures.outcome held kept same))
 
 pub returns-in-ProveTrace-clause-ends : goal.returns-in-ProveTrace-clause-ends
-returns-in-ProveTrace-clause-ends g c = of_given (status_of_found c.prove_trace.result)
-    c.args.command.now (ProveTrace c.in-ProveTrace.key c.in-ProveTrace.at c.in-ProveTrace.root_at)
-    c.in-ProveTrace.is
-    (may_end c.prove_trace.result (Some (ProveTrace c.in-ProveTrace.key c.in-ProveTrace.at
-    c.in-ProveTrace.root_at)) (asked_ends c.prove_trace.result
-    (Some (ProveTrace c.in-ProveTrace.key c.in-ProveTrace.at c.in-ProveTrace.root_at)) refl
-    c.prove_trace.ensures.ends) (λ e. absurd (c.prove_trace.ensures.reads e)) (λ e. refl)
-    (λ e. refl))
+returns-in-ProveTrace-clause-ends g c = lineage_ends c.prove_trace.result c.args.command.now
+    (ProveTrace c.in-ProveTrace.key c.in-ProveTrace.at c.in-ProveTrace.root_at) c.in-ProveTrace.is
+    refl
+    c.prove_trace.ensures.ends c.prove_trace.ensures.reads
 
 pub returns-in-ProveTrace-clause-has_log : goal.returns-in-ProveTrace-clause-has_log
 returns-in-ProveTrace-clause-has_log g c = asked_has_log c.prove_trace.result
     c.prove_trace.ensures.ends
+
+pub range-requires-clause-in_order : goal.range-requires-clause-in_order
+range-requires-clause-in_order g c = in_order c.args.command.now c.in-Range.key c.in-Range.from
+    c.in-Range.to c.in-Range.is c.requires.given
+
+pub returns-in-Range-clause-found : goal.returns-in-Range-clause-found
+returns-in-Range-clause-found g c held kept same =
+    of_over kept c.range.result (g.I.Source.left c.args.source.now)
+    (g.I.Source.left c.args.source.now) c.args.command.now
+    (Range c.in-Range.key c.in-Range.from c.in-Range.to) c.in-Range.is
+    (asked_over kept c.range.result
+    (range_outcome compiled_in c.in-Range.key c.in-Range.from c.in-Range.to)
+    (g.I.Source.left c.args.source.now) (c.range.ensures.outcome held kept same))
+
+pub returns-in-Range-clause-ends : goal.returns-in-Range-clause-ends
+returns-in-Range-clause-ends g c = lineage_ends c.range.result c.args.command.now
+    (Range c.in-Range.key c.in-Range.from c.in-Range.to) c.in-Range.is refl
+    c.range.ensures.ends c.range.ensures.reads
+
+pub returns-in-Range-clause-has_log : goal.returns-in-Range-clause-has_log
+returns-in-Range-clause-has_log g c = asked_has_log c.range.result c.range.ensures.ends
+
+pub prove_range-requires-clause-in_order : goal.prove_range-requires-clause-in_order
+prove_range-requires-clause-in_order g c = proved_in_order c.args.command.now c.in-ProveRange.key
+    c.in-ProveRange.from c.in-ProveRange.to c.in-ProveRange.root_at c.in-ProveRange.is
+    c.requires.given
+
+pub returns-in-ProveRange-clause-found : goal.returns-in-ProveRange-clause-found
+returns-in-ProveRange-clause-found g c held kept same =
+    of_over kept c.prove_range.result (g.I.Source.left c.args.source.now)
+    (g.I.Source.left c.args.source.now) c.args.command.now
+    (ProveRange c.in-ProveRange.key c.in-ProveRange.from c.in-ProveRange.to c.in-ProveRange.root_at)
+    c.in-ProveRange.is
+    (asked_over kept c.prove_range.result
+    (prove_range_outcome compiled_in c.in-ProveRange.key c.in-ProveRange.from c.in-ProveRange.to
+    c.in-ProveRange.root_at)
+    (g.I.Source.left c.args.source.now) (c.prove_range.ensures.outcome held kept same))
+
+pub returns-in-ProveRange-clause-ends : goal.returns-in-ProveRange-clause-ends
+returns-in-ProveRange-clause-ends g c = lineage_ends c.prove_range.result c.args.command.now
+    (ProveRange c.in-ProveRange.key c.in-ProveRange.from c.in-ProveRange.to c.in-ProveRange.root_at)
+    c.in-ProveRange.is refl
+    c.prove_range.ensures.ends c.prove_range.ensures.reads
+
+pub returns-in-ProveRange-clause-has_log : goal.returns-in-ProveRange-clause-has_log
+returns-in-ProveRange-clause-has_log g c = asked_has_log c.prove_range.result
+    c.prove_range.ensures.ends
 
 pub returns-in-Expose-clause-found : goal.returns-in-Expose-clause-found
 returns-in-Expose-clause-found g c held kept same =

@@ -1,0 +1,17 @@
+-- Accepted range proofs show the versions of replays, as replayed chains are typed ledgers.
+use Rattle.std.proofs.Common.{ℕ, ◌<◌, ◌^◌, length, map, arith}
+use Rattle.std.proofs.lemmas.List.{length-map}
+use Rattle.block_codec.specs.Placement.{digest_of}
+use Rattle.replay_soundness.specs.chain_exec.Replay.{replay}
+use Rattle.range_checks.proofs.Sound.{range_is_sound}
+use Rattle.replay_soundness.proofs.TypedChains.{replays_are_typed}
+use Rattle.replay_soundness.specs.Ranges.{AcceptedRangesAreOfReplays}
+
+pub accepted_ranges_are_of_replays : AcceptedRangesAreOfReplays
+accepted_ranges_are_of_replays root key from to range versions is accepted compile blocks block
+    has =
+    let typed = replays_are_typed compile blocks (has.right, has.chain) in
+    let few : length (map digest_of blocks) < 2 ^ 32 = typed.few in
+    let fits : block < 2 ^ 32 = omega (arith, has.within, few, length-map blocks digest_of) in
+    range_is_sound root key from to range versions is accepted (replay compile blocks).rows
+    (map digest_of blocks) block typed.history fits has.root_is
