@@ -7,7 +7,9 @@ ghost use Rattle.block_codec.specs.Spelling.{IsBlock};
 use block_codec::{Block, FIRST_VERSION, NO_PARENT, Tx, TxList, decode, encode};
 use chain_exec::run_block;
 use contract_check::Checked;
-use lc_base::{Bytes, Dep, Host, HostError, Key, Name, TxStatus, Value, ValueList, Version};
+use lc_base::{
+    Bytes, Dep, Host, HostError, Key, Memory, Name, TxStatus, Value, ValueList, Version,
+};
 use lc_io::one_more;
 use resources::{Resources, Zeros};
 use std::alloc::Global;
@@ -118,41 +120,60 @@ impl Host for FailingHost {
     ghost same_rows = { λ _ _ _. refl };
 }
 
-/// A block of one transaction, as it is decoded from its encoding.
-fn block_of(alloc: Global, number: u32, tx: Tx) -> Option<Block>
+/// Drops a state. It has many parts, so this is the one place where it is dropped.
+pub(crate) fn discard(_world: World<Checked>) {}
+
+/// The list of one transaction.
+fn list_of(alloc: Global, tx: Tx) -> Option<TxList> {
+    let mut txs = TxList::new(alloc);
+    match txs.push(tx) {
+        Ok(()) => Some(txs),
+        Err(Memory) => None,
+    }
+}
+
+/// The block that bytes spell; `None` if they spell none.
+fn decoded(alloc: Global, bytes: &[u8]) -> Option<Block>
     ensures { IfSome result IsBlock }
 {
-    let mut txs = TxList::new(alloc);
-    txs.push(tx).ok()?;
+    decode(alloc, bytes).ok()
+}
+
+/// The bytes of a block of these transactions.
+fn encoded(alloc: Global, number: u32, txs: TxList) -> Option<Bytes> {
     let block = Block {
         version: FIRST_VERSION,
         number,
         parent: NO_PARENT,
         txs,
     };
-    let bytes = encode(alloc, &block).ok()?;
-    decode(alloc, bytes.as_bytes()).ok()
+    encode(alloc, &block).ok()
 }
 
-/// The state after a block that deploys the contract.
-fn deployed(alloc: Global) -> Option<World<Checked>>
-    ensures no_rows { IfSome result (λ world. world.staged ≡ []) }
-    ensures no_codes { IfSome result (λ world. world.staged_codes ≡ []) }
+/// A block of one transaction, as it is decoded from its encoding.
+fn block_of(alloc: Global, number: u32, tx: Tx) -> Option<Block>
+    ensures { IfSome result IsBlock }
+{
+    let bytes = encoded(alloc, number, list_of(alloc, tx)?)?;
+    decoded(alloc, bytes.as_bytes())
+}
+
+/// The block that deploys the contract.
+fn deploying(alloc: Global) -> Option<Block>
+    ensures { IfSome result IsBlock }
 {
     let deploy = Tx::Deploy {
         sender: Key::new(b"u").ok()?,
         name: Name::new(b"c").ok()?,
         source: Bytes::from_vec(Vec::from_slice(alloc, SOURCE).ok()?),
     };
-    let block = block_of(alloc, 0, deploy)?;
-    let mut world = World::new(Resources::new(alloc, &Zeros).ok()?);
-    let mut host = FailingHost::new(NEVER);
-    run_block(alloc, &mut host, &mut world, &block).ok()?;
-    world.commit().ok()
+    block_of(alloc, 0, deploy)
 }
 
-/// How a call of the function ends over a host: its status, or the error.
-fn call_over(alloc: Global, host: &mut FailingHost) -> Option<Result<TxStatus, HostError>> {
+/// The block that calls the function.
+fn calling(alloc: Global) -> Option<Block>
+    ensures { IfSome result IsBlock }
+{
     let call = Tx::Call {
         sender: Key::new(b"u").ok()?,
         contract: Name::new(b"c").ok()?,
@@ -160,12 +181,67 @@ fn call_over(alloc: Global, host: &mut FailingHost) -> Option<Result<TxStatus, H
         args: ValueList::new(alloc),
         budget: BUDGET,
     };
-    let block = block_of(alloc, 1, call)?;
-    let mut world = deployed(alloc)?;
-    match run_block(alloc, host, &mut world, &block) {
-        Ok(run) => Some(Ok(run.receipts.get(0)?.status)),
+    block_of(alloc, 1, call)
+}
+
+/// How the only transaction of a block ends on a state over a host: its status, or the error.
+fn status_of(
+    alloc: Global,
+    host: &mut FailingHost,
+    world: &mut World<Checked>,
+    block: &Block,
+) -> Option<Result<TxStatus, HostError>>
+    requires is_block { IsBlock block.now }
+    requires no_rows { world.old.staged ≡ [] }
+    requires no_codes { world.old.staged_codes ≡ [] }
+{
+    match run_block(alloc, host, world, block) {
+        Ok(run) => match run.receipts.get(0) {
+            Some(receipt) => Some(Ok(receipt.status)),
+            None => None,
+        },
         Err(error) => Some(Err(error)),
     }
+}
+
+/// The state after a block, over a host that never fails.
+fn after(alloc: Global, before: World<Checked>, block: &Block) -> Option<World<Checked>>
+    requires is_block { IsBlock block.now }
+    requires no_rows { before.staged ≡ [] }
+    requires no_codes { before.staged_codes ≡ [] }
+    ensures no_rows { IfSome result (λ world. world.staged ≡ []) }
+    ensures no_codes { IfSome result (λ world. world.staged_codes ≡ []) }
+{
+    let mut world = before;
+    match status_of(alloc, &mut FailingHost::new(NEVER), &mut world, block) {
+        Some(Ok(TxStatus::Ok)) => world.commit().ok(),
+        _ => {
+            discard(world);
+            None
+        }
+    }
+}
+
+/// The state after a block that deploys the contract.
+fn deployed(alloc: Global) -> Option<World<Checked>>
+    ensures no_rows { IfSome result (λ world. world.staged ≡ []) }
+    ensures no_codes { IfSome result (λ world. world.staged_codes ≡ []) }
+{
+    let block = deploying(alloc)?;
+    after(
+        alloc,
+        World::new(Resources::new(alloc, &Zeros).ok()?),
+        &block,
+    )
+}
+
+/// How a call of the function ends over a host: its status, or the error.
+fn call_over(alloc: Global, host: &mut FailingHost) -> Option<Result<TxStatus, HostError>> {
+    let block = calling(alloc)?;
+    let mut world = deployed(alloc)?;
+    let ended = status_of(alloc, host, &mut world, &block);
+    discard(world);
+    ended
 }
 
 /// Whether the call ends with the fault of a host that fails at its call `failing`, and the host
