@@ -4,13 +4,14 @@
     verify.py ROOT KIND KEY BLOCK < PROOF     checks a proof
     verify.py trace ROOT KEY BLOCK < PROOF    checks a proof of all ancestors
     verify.py range ROOT KEY FROM TO < PROOF  checks a proof of all versions between two blocks
+    verify.py light < LIGHT_FILE_AND_PROOFS   checks proofs by a light file
     verify.py --show < PROOF                  shows what a proof holds, and checks nothing of it
     verify.py --help                          prints this
 
 ROOT is the root of a block, 64 hex digits, which has to come from elsewhere; KIND is hist, back or fwd;
-PROOF is in hex. docs/proofs.md has the bytes of a proof, the checks in their order, and what is printed.
-This file was written from that page alone and shares no code with the program. It needs nothing but
-Python 3 and its standard library.
+PROOF is in hex. docs/proofs.md has the bytes of a proof, the checks in their order, and what is printed;
+docs/light.md has those of a light file. This file was written from these pages alone and shares no code
+with the program. It needs nothing but Python 3 and its standard library.
 """
 import bisect
 import hashlib
@@ -26,11 +27,16 @@ MAX_TEXT_BYTES = 8_192
 MAX_LINKS = 32
 MAX_DEPS = 64
 MAX_ITEMS = 2**32 - 2
+MAX_FRAME_BYTES = 1_048_576
+MAX_FRAMES = 2_097_152
 DIGEST_BYTES = 32
+# How many bytes are read at once.
+PIECE_BYTES = 1_048_576
 
 MAGIC = b"LCP1"
 TRACE_MAGIC = b"LCT1"
 RANGE_MAGIC = b"LCR1"
+LIGHT_MAGIC = b"LCH1"
 # What a proof is of.
 OF_ANSWER, OF_TRACE, OF_RANGE = range(3)
 KINDS = ["hist", "back", "fwd"]
@@ -46,7 +52,7 @@ KEY_WORD = re.compile(rb"[a-z0-9./_-]{1,64}")
 ROOT_WORD = re.compile(rb"[0-9a-f]{64}")
 NUMBER_WORD = re.compile(rb"0|[1-9][0-9]{0,9}")
 
-DONE, USAGE, UNREADABLE, UNTOLD, OUT_OF_MEMORY, REJECTED, BAD_INPUT = 0, 1, 2, 3, 5, 10, 11
+DONE, USAGE, UNREADABLE, UNTOLD, OUT_OF_MEMORY, REFUSED, REJECTED, BAD_INPUT = 0, 1, 2, 3, 5, 8, 10, 11
 
 
 class Stop(Exception):
@@ -557,6 +563,85 @@ def range_answer(proof, root, period):
     return [f"versions {len(versions)}", *reversed(versions)]
 
 
+# ---- proofs that are checked by a light file
+
+
+class LightFile(NamedTuple):
+    """The digest of each block and the root at it, block by block, as they stand in the file."""
+
+    count: int
+    entries: bytes
+
+    def entry(self, block):
+        """The digest and the root of a block below the count."""
+        start = block * 2 * DIGEST_BYTES
+        middle, end = start + DIGEST_BYTES, start + 2 * DIGEST_BYTES
+        return self.entries[start:middle], self.entries[middle:end]
+
+
+def read_light(take):
+    """The light file that the input begins with."""
+    head = take(len(LIGHT_MAGIC) + 4)
+    if len(head) < len(LIGHT_MAGIC) + 4 or not head.startswith(LIGHT_MAGIC):
+        raise bad_input("light")
+    count = int.from_bytes(head[len(LIGHT_MAGIC) :], "big")
+    entries = take(count * 2 * DIGEST_BYTES)
+    if len(entries) < count * 2 * DIGEST_BYTES:
+        raise bad_input("light")
+    return LightFile(count, entries)
+
+
+def frames(take):
+    """The bytes of each frame, up to the end of the input."""
+    number = 0
+    while length := take(4):
+        size = int.from_bytes(length, "big")
+        if len(length) < 4:
+            raise refused(number, "truncated")
+        if not 1 <= size <= MAX_FRAME_BYTES:
+            raise refused(number, f"length {size}")
+        if number == MAX_FRAMES:
+            raise refused(number, "many")
+        frame = take(size)
+        if len(frame) < size:
+            raise refused(number, "truncated")
+        yield frame
+        number += 1
+
+
+def refused(number, cause):
+    return Stop(f"refused frame {number} {cause}", REFUSED)
+
+
+def light_answer(light, proof):
+    """The lines of what a proof proves by a light file: its own question with the root block, and the answer."""
+    if proof.root_block >= light.count:
+        raise rejected(f"unknown {light.count}")
+    digest, root = light.entry(proof.root_block)
+    if proof.block_digest != digest:
+        raise rejected(f"digest {digest.hex()}")
+    lines = answer(proof, root, proof.question)
+    return [f"{question_text(proof.question)} root {proof.root_block}", *lines]
+
+
+def check_by_light(take, say):
+    """Checks each proof of the input by the light file before them, says what it proves or why it is refused, and
+    answers the status. The bytes are taken as they are needed, by their number; fewer are left where fewer come."""
+    status = DONE
+    try:
+        light = read_light(take)
+        for number, frame in enumerate(frames(take)):
+            try:
+                first, *lines = light_answer(light, read_proof(frame, OF_ANSWER))
+            except Stop as stop:
+                first, lines, status = stop.line, [], REJECTED
+            say([f"proof {number} {first}", *lines])
+    except Stop as stop:
+        say([stop.line] if stop.line else [])
+        return stop.status
+    return status
+
+
 # ---- what a proof holds
 
 
@@ -666,18 +751,26 @@ def are_formed(root, key, *blocks):
     return is_formed and all(int(block) <= MAX_NUMBER for block in blocks)
 
 
-def read_input():
-    """Standard input; no more than one byte past the limit is read."""
-    read = bytearray()
+def take_input(size):
+    """So many bytes of standard input, or what is left of it."""
+    taken = bytearray()
     try:
-        while len(read) <= MAX_INPUT_BYTES:
-            part = os.read(0, MAX_INPUT_BYTES + 1 - len(read))
+        while len(taken) < size:
+            part = os.read(0, min(size - len(taken), PIECE_BYTES))
             if not part:
-                return bytes(read)
-            read += part
+                break
+            taken += part
     except OSError as fault:
         raise Stop(None, UNREADABLE) from fault
-    raise bad_input("long")
+    return bytes(taken)
+
+
+def read_input():
+    """Standard input; no more than one byte past the limit is read."""
+    read = take_input(MAX_INPUT_BYTES + 1)
+    if len(read) > MAX_INPUT_BYTES:
+        raise bad_input("long")
+    return read
 
 
 def read_hex(source):
@@ -715,10 +808,12 @@ def proved(proof, root, question):
 
 
 def outcome(words):
-    """The lines that are printed, and the status."""
+    """The lines that are printed, and the status; those of a light file and proofs are printed as they come."""
     if words == ["--help"]:
         return __doc__.rstrip("\n").split("\n"), DONE
     try:
+        if words == ["light"]:
+            return [], check_by_light(take_input, write)
         if words == ["--show"]:
             proof = read_hex(read_input())
             return shown(read_proof(proof, kind_of(proof))), DONE
@@ -749,8 +844,8 @@ def write(lines):
 
 
 def main():
-    lines, status = outcome(sys.argv[1:])
     try:
+        lines, status = outcome(sys.argv[1:])
         write(lines)
     except OSError:
         status = UNTOLD

@@ -3,7 +3,8 @@ crash.
 
 What is expected is worked out from docs/log.md and docs/formats.md: which calls such a run makes, and what a disk
 holds after so many of them. What a crash leaves is read by tools/cases/block_reader.py; roots are those of
-tools/cases/root_cases.py, and proofs those of tools/cases/proof_cases.py.
+tools/cases/root_cases.py, proofs those of tools/cases/proof_cases.py, and light files those of
+tools/cases/light_cases.py.
 """
 import functools
 import itertools
@@ -11,9 +12,10 @@ from typing import NamedTuple
 
 from cases.block_files import FIRST_VERSION, SECOND_VERSION, block_file, sets
 from cases.block_reader import stands_for
+from cases.light_cases import accepted, frame, hex_lines, light_file_of
 from cases.log_cases import (
-    ALREADY, BEYOND, CLOSED, DISK_FAULT, DONE, FIRST_GATE, HEAD, MAGIC, MARK, OPEN, SET_FILE, UNREADABLE, UNTOLD,
-    LogCase, frames_of, log_of, upgraded,
+    ALREADY, BAD_INPUT, BEYOND, CLOSED, DISK_FAULT, DONE, FIRST_GATE, HEAD, MAGIC, MARK, OPEN, REFUSED, REJECTED,
+    SET_ANSWER, SET_FILE, SET_ROWS, UNREADABLE, UNTOLD, LogCase, frames_of, log_of, upgraded,
 )
 from cases.proof_cases import proof_of
 from cases.range_cases import range_proof_of
@@ -403,6 +405,7 @@ ANCESTORS = ["block 2 ancestors 1\n", "raw/a 0\n"]
 TRACE_PROOF = made_trace("raw/b", 2)
 VERSIONS = ["versions 1\n", "block 2 tx 0 int 2\n"]
 RANGE_PROOF = made_range("raw/b", 0, 2)
+LIGHT_FILE = light_file_of(FILE, ROWS)
 # Commands over the log of the three blocks, and the lines of each. They read nothing.
 QUESTIONS = {
     "hist raw/b": ["block 2 tx 0 int 2\n"],
@@ -417,6 +420,7 @@ QUESTIONS = {
     "range raw/b 0 2": VERSIONS,
     "range raw/b 0 1": ["versions 0\n"],
     f"range prove raw/b 0 2 {HEAD_BLOCK}": [RANGE_PROOF],
+    "light make": hex_lines(LIGHT_FILE),
 }
 TRACE_VERIFY = f"trace verify {ROOTS[HEAD_BLOCK]} raw/b 2"
 RANGE_VERIFY = f"range verify {ROOTS[HEAD_BLOCK]} raw/b 0 2"
@@ -462,9 +466,63 @@ def failing_proofs():
         yield LogCase(words, image, "".join(lines), file=source, calls=f"{reads + len(lines)}")
 
 
+# The light file of the chain of one block, and behind it a frame that is no proof, and a proof of what the block set.
+SET_LIGHT = light_file_of(SET_FILE, SET_ROWS)
+NO_PROOF = frame(b"x")
+SET_PROOF = proof_of(History(SET_ROWS), block_digests([SET_FILE])[0], "hist", "raw/a", 0, 0)
+LIGHT_INPUT = SET_LIGHT + NO_PROOF + frame(SET_PROOF)
+LIGHT_LINES = ["proof 0 rejected malformed 0\n"]
+LIGHT_LINES += [f"{line}\n" for line in accepted(1, "hist", "raw/a", 0, 0, [SET_ANSWER.rstrip()])]
+
+
+def failing_lights():
+    """`light` with each of its pulls failing, one byte a pull, and with each of its tells: of each frame that was read
+    the lines were told. It ends as it does where a proof was rejected."""
+    size, first = len(LIGHT_INPUT), len(SET_LIGHT + NO_PROOF)
+    for pull in range(size + 1):
+        told = LIGHT_LINES[: (pull >= first) + 2 * (pull >= size)]
+        yield LogCase(
+            "light", b"hello", "".join(told), UNREADABLE, file=LIGHT_INPUT, left=size - pull, pulls=f"{pull}", piece=1
+        )
+    all_lines = "".join(LIGHT_LINES)
+    yield LogCase("light", b"hello", all_lines, REJECTED, file=LIGHT_INPUT, pulls=f"{size + 1}", piece=1)
+    for tell in range(len(LIGHT_LINES)):
+        left = 0 if tell else size - first
+        told = "".join(LIGHT_LINES[:tell])
+        yield LogCase("light", b"hello", told, UNTOLD, file=LIGHT_INPUT, left=left, calls=f"{tell}")
+    yield LogCase("light", b"hello", all_lines, REJECTED, file=LIGHT_INPUT, calls=f"{len(LIGHT_LINES)}")
+    # The one line of a file or a frame that is none.
+    for file, left, line, status in [
+        (SET_LIGHT[:-1], 0, "badinput light\n", BAD_INPUT),
+        (SET_FILE, len(SET_FILE) - 8, "badinput light\n", BAD_INPUT),
+        (SET_LIGHT + bytes(4) + b"x", 1, "refused frame 0 length 0\n", REFUSED),
+        (LIGHT_INPUT[: first - 1], 0, "refused frame 0 truncated\n", REFUSED),
+    ]:
+        yield LogCase("light", b"hello", "", UNTOLD, file=file, left=left, calls="0")
+        yield LogCase("light", b"hello", line, status, file=file, left=left, calls="1")
+
+
+def pausing_lights():
+    """`light` over a source that gives nothing once, as at the end of an input, and then goes on, one byte a pull: it
+    has ended by then."""
+    none, rejected, all_lines = "badinput light\n", LIGHT_LINES[0], "".join(LIGHT_LINES)
+    light, first, size = len(SET_LIGHT), len(SET_LIGHT + NO_PROOF), len(LIGHT_INPUT)
+    for pull, told, status in [
+        *((pull, none, BAD_INPUT) for pull in (0, 3, 4, 7, 8, 40, light - 1)),
+        (light, "", DONE),
+        *((pull, "refused frame 0 truncated\n", REFUSED) for pull in (light + 1, light + 4)),
+        (first, rejected, REJECTED),
+        *((pull, f"{rejected}refused frame 1 truncated\n", REFUSED) for pull in (first + 1, first + 4, size - 1)),
+        (size, all_lines, REJECTED),
+    ]:
+        file = LIGHT_INPUT + b"x"
+        pulls = f"pause {pull}"
+        yield LogCase("light", b"hello", told, status, file=file, left=len(file) - pull, pulls=pulls, piece=1)
+
+
 def fault_cases():
     """All cases, as tools/cases/log_cases.py gives its own."""
     crashes = itertools.starmap(over_crashes, STARTS)
-    for part in [*crashes, failing_pulls(), failing_questions(), failing_proofs()]:
+    for part in [*crashes, failing_pulls(), failing_questions(), failing_proofs(), failing_lights(), pausing_lights()]:
         for case in part:
             yield case.case()

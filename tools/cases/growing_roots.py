@@ -127,7 +127,11 @@ class Ledger:
         text += number(count, 8) + digest + number(len(links), 1)
         text += b"".join(number(block, 4) + header for block, header in links)
         header = self.headers[row.key, row.block] = digest_of(text)
+        self.keep_texts(row, body, text, links)
         key.add_version(row.block, header, len(links))
+
+    def keep_texts(self, row, body, header, links):
+        """Takes the texts of a version; nothing is kept of them here."""
 
     def leaf(self, name):
         key = self.keys[name]
@@ -145,9 +149,9 @@ class Ledger:
         return digest_of(text + self.tree.hash(0, count))
 
 
-def growing_roots(frames, rows):
-    """The roots at all blocks of a chain, in hex."""
-    ledger, at = Ledger(), 0
+def growing_roots(frames, rows, ledger=None):
+    """The roots at all blocks of a chain, in hex; by a ledger of no block, where one is given."""
+    ledger, at = ledger or Ledger(), 0
     for block, digest in enumerate(block_digests(frames)):
         end = at
         while end < len(rows) and rows[end].block == block:

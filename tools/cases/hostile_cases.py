@@ -7,12 +7,16 @@ tools/cases/block_reader.py.
 import itertools
 from typing import NamedTuple
 
-from cases import forged_ranges, forged_traces
+from cases import forged_lights, forged_ranges, forged_traces
 from cases.block_files import (
     FIRST_VERSION, GONE, OK, OUT_OF_STEPS, SECOND_VERSION, block_file, calls, deploys, number, sets,
 )
 from cases.block_reader import stands_for
 from cases.changed_files import CHANGES, written
+from cases.fault_cases import LIGHT_INPUT, NO_PROOF, SET_LIGHT
+from cases.light_cases import (
+    ENTRY_BYTES, HEAD_BYTES, PIECE_BLOCKS, accepted, frame, hex_lines, light_file, light_file_of,
+)
 from cases.log_cases import (
     ALREADY, BEYOND, CHAINS, CLOSED, DAMAGED, DONE, FIRST_GATE, HEAD, HIST, LONGEST_TEXT, MARK, NOT_A_LOG, OPEN,
     REFUSED, REJECTED, SET_ANSWER, SET_FILE, SET_LOG, SET_ROWS, LogCase, frames_of, log_of, upgraded,
@@ -22,7 +26,7 @@ from cases.range_cases import FAR_BLOCKS, FAR_PATH, FAR_QUESTION, FAR_STEPS, bod
 from cases.range_cases import spelled as spelled_range
 from cases.root_cases import History, Row, block_digests, roots
 from cases.trace_cases import spelled, trace_proof_of
-from cases.verifier import text_of, told_of
+from cases.verifier import text_of, told_by_light, told_of
 from lineage.draft_faults import MAX_BUDGET, MAX_BUDGETS
 
 
@@ -162,6 +166,62 @@ def made_ranges():
         line = made.proof.hex() + "\n"
         yield LogCase(f"range prove {key} {first} {last} {root_at}", log_of(file), line)
         yield LogCase(made.words, b"", answer, file=line.encode("ascii"))
+
+
+# A chain, how it is marked, and its rows: of none, of three keys, of contracts, of two versions of a key far apart, and
+# of blocks before and behind a mark. Then questions with their root blocks, and the answers.
+MADE_LIGHTS = [
+    (b"", b"", [], []),
+    (b"", log_of(b"", b""), [], []),
+    (SET_FILE, SET_LOG, SET_ROWS, [(("hist", "raw/a", 0, 0), ["block 0 tx 0 int 5"])]),
+    (
+        BETWEEN_FILE, log_of(BETWEEN_FILE, b""), BETWEEN_ROWS,
+        [(("hist", "raw/m", 0, 0), ["block 0 tx 1 int 2"]), (("fwd", "raw/f", 0, 0), ["none"])],
+    ),
+    (
+        BANK_FILE, log_of(BANK_FILE), BANK_ROWS,
+        [
+            (("fwd", "bank/n", 1, 3), ["block 1 uses 2", "bank/n 2", "bank/log 2"]),
+            (("fwd", "bank/n", 1, 1), ["block 1 uses 0"]),
+            (("back", "bank/log", 3, 3), ["block 2 deps 1", "bank/n 1"]),
+            (("hist", "bank/n", 0, 3), ["none"]),
+        ],
+    ),
+]
+
+
+def made_lights():
+    """The light file of each chain is made over its log. By it the proofs of all questions are accepted with the
+    answers; and by the light file of the blocks before the last one those at the last one aren't."""
+    for file, log, rows, asked in MADE_LIGHTS:
+        light, digests = light_file_of(file, rows), block_digests(frames_of(file))
+        yield LogCase("light make", log, "".join(hex_lines(light)), file=b"x", left=1)
+        proofs = [frame(proof_of(History(rows), digests[root_at], *of, root_at)) for (*of, root_at), _ in asked]
+        answers = [accepted(at, *question, answer) for at, (question, answer) in enumerate(asked)]
+        source = light + b"".join(proofs)
+        yield LogCase("light", b"", text_of(itertools.chain(*answers)), file=source)
+        head = len(digests) - 1
+        if head > 0:
+            shorter = number_put(light[:-ENTRY_BYTES], head) + b"".join(proofs)
+            told = [
+                [f"proof {at} rejected unknown {head}"] if question[3] == head else answers[at]
+                for at, (question, _) in enumerate(asked)
+            ]
+            yield LogCase("light", b"", text_of(itertools.chain(*told)), REJECTED, file=shorter)
+
+
+def long_lights():
+    """The light file of one block more than a piece has."""
+    file = block_file([[sets("raw/a", 5)], *[[]] * PIECE_BLOCKS])
+    light = light_file_of(file, SET_ROWS)
+    lines = hex_lines(light)
+    assert len(lines) == 3
+    yield LogCase("light make", log_of(file), "".join(lines))
+
+
+def number_put(light, count):
+    """The light file with another count of blocks."""
+    return light[:4] + number(count, 4) + light[HEAD_BYTES:]
 
 
 # ---- a proof of one header
@@ -405,6 +465,69 @@ def changed_ranges():
         yield asked.case(forgery.proof, f"rejected {forgery.refused}")
 
 
+# ---- a light file and proofs of which bytes are changed
+
+
+def checked_by_light(source, begin=""):
+    """The case of `light` over an input, whose last line begins with these words."""
+    lines, status, left = told_by_light(source)
+    assert not begin or lines[-1].startswith(begin), (lines, begin)
+    return LogCase("light", b"", text_of(lines), status, file=source, left=left)
+
+
+# Of the light file of one block the count begins at 4, the digest of the block at 8, the root at 40; the length of the
+# frame behind it at 72, and its proof at 76.
+FRAMED_AT, PROOF_AT = 72, 76
+SET_FRAMED = SET_LIGHT + frame(SET_PROVED.proof)
+LIGHT_CHANGES = [
+    (0, 0x4D, "badinput light"),
+    (3, 0x32, "badinput light"),
+    (4, 1, "badinput light"),
+    # The file has more blocks than it says, and the first bytes of a digest are a length; or fewer, and a part of the
+    # proof is taken for a block.
+    (7, 0, "refused frame 0 length "),
+    (7, 2, "refused frame 0 truncated"),
+    (8, 0, "proof 0 rejected digest 00"),
+    (71, 0, "proof 0 rejected root "),
+    (FRAMED_AT, 1, "refused frame 0 length "),
+    (FRAMED_AT + 3, 0x11, "refused frame 1 truncated"),
+    (FRAMED_AT + 3, 0x13, "refused frame 0 truncated"),
+    (PROOF_AT, 0x4D, "proof 0 rejected malformed 0"),
+    # Another kind of question, and another block of one, are of proofs that lead to the root as well: the answer is
+    # that of the proof's own question.
+    (PROOF_AT + 4, 1, "block 0 deps 0"),
+    (PROOF_AT + 4, 2, "proof 0 rejected malformed 274"),
+    (PROOF_AT + 11, ord("b"), "proof 0 rejected path 0"),
+    (PROOF_AT + 15, 1, "proof 0 rejected malformed 16"),
+    (PROOF_AT + 19, 1, "proof 0 rejected unknown 1"),
+    (PROOF_AT + 20, 0, "proof 0 rejected digest "),
+    (PROOF_AT + 272, 4, "proof 0 rejected body "),
+]
+
+
+def changed_lights():
+    """The light file of one block and a proof behind it with the changes that are named, with each byte changed, and
+    cut at every length; with one proof rejected between others; and proofs of wrong answers."""
+    assert SET_FRAMED[PROOF_AT:] == SET_PROVED.proof
+    yield checked_by_light(SET_FRAMED, "block 0 tx 0 int 5")
+    for offset, byte, begin in LIGHT_CHANGES:
+        yield checked_by_light(put(SET_FRAMED, offset, byte), begin)
+    for offset in range(len(SET_FRAMED)):
+        yield checked_by_light(turned(SET_FRAMED, offset))
+        yield checked_by_light(SET_FRAMED[:offset])
+    good, others = frame(SET_PROVED.proof), [NO_PROOF, frame(turned(SET_PROVED.proof, 20)), frame(b"\0" * 300)]
+    for other in others:
+        yield checked_by_light(SET_LIGHT + good + other + good, "block 0 tx 0 int 5")
+        yield checked_by_light(SET_LIGHT + other + good + bytes(4) + good, "refused frame 2 length 0")
+    yield checked_by_light(LIGHT_INPUT + b"\0", "refused frame 2 truncated")
+    yield checked_by_light(light_file([], []) + good, "proof 0 rejected unknown 0")
+    forged = {}
+    for light, forgery, _ in forged_lights.with_files():
+        forged.setdefault(light, []).append(forgery)
+    for light, forgeries in forged.items():
+        yield checked_by_light(light + b"".join(frame(forgery.proof) for forgery in forgeries), "proof")
+
+
 # ---- a proof of a version that is gone
 
 
@@ -570,7 +693,7 @@ def commands_over_wrong_logs():
     wrong_logs = [(image, told, status) for image, told, status in LOG_CHANGES if status == DAMAGED]
     for image, told, status in [*wrong_logs, (turned(SET_LOG, 0), "not a log\n", NOT_A_LOG)]:
         traces = ["trace raw/a 7", "trace prove raw/a 7 7"]
-        others = [*traces, "range raw/a 0 7", "range prove raw/a 0 7 7", "upgrade"]
+        others = [*traces, "range raw/a 0 7", "range prove raw/a 0 7 7", "light make", "upgrade"]
         for words in ["back raw/a", "fwd raw/a 7", "root", "prove hist raw/a 7 7", expose, *others]:
             yield LogCase(words, image, told, status, file=source, left=len(source))
 
@@ -616,6 +739,6 @@ def hostile_cases():
     yield from other_paths()
     yield from gone_proofs()
     exposed = (asked.exposed(SET_LOG, 0, changed, begin) for asked, changed, begin in named_changes())
-    made = made_proofs(), made_traces(), made_ranges(), long_proofs()
-    for case in itertools.chain(*made, exposed, commands_over_wrong_logs(), changed_logs()):
+    made = made_proofs(), made_traces(), made_ranges(), made_lights(), long_lights(), long_proofs()
+    for case in itertools.chain(*made, exposed, changed_lights(), commands_over_wrong_logs(), changed_logs()):
         yield case.case()

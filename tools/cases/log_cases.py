@@ -775,8 +775,13 @@ def words():
         f"range verify {'A' * 64} raw/a 0 0", f"range verify {root}0 raw/a 0 0", f"range verify {root[1:]} raw/a 0 0",
         f"range expose {root} raw/a 0 0", f"range expose {root} raw/a 0 0 0",
     ]
+    lights = [
+        "lights", "Light", "light x", "light 0", "light MAKE", "light makes", "light make x", "light make 0",
+        "light light", "light make make", "light verify", "light prove", "light raw/a 0", "make light", "make",
+        f"light {root}", "light --help",
+    ]
     others = ["root 00", "root x", "root -1", "root 0 0", "root 4294967296"]
-    for text in ["append x", *questions, *traces, *ranges, *others]:
+    for text in ["append x", *questions, *traces, *ranges, *lights, *others]:
         yield LogCase(text, SET_LOG, "usage\n", 1, file=SET_FILE, left=len(SET_FILE))
     for kind in ["hist", "back", "fwd"]:
         yield LogCase(f"{kind} raw/a", b"", "beyond empty\n", BEYOND)

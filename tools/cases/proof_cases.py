@@ -140,14 +140,15 @@ class Checked:
 
 
 def recorded_cases():
-    """The cases of `verify`, of `trace verify` and of `range verify` in crates/run_cases: words, input, and what must
-    be printed, after the status."""
+    """The cases of `verify`, `trace verify`, `range verify` and `light` in crates/run_cases: words, input, and what
+    must be printed, after the status."""
     with open(f"{TOP}/crates/run_cases/stdin") as stdin, open(f"{TOP}/crates/run_cases/stdout") as stdout:
         printed = stdout.read().removeprefix("== ").split("\n== ")
         for line, told in zip(stdin, printed, strict=True):
             words, *fields = line.rstrip("\n").split("|")
+            is_of_proof = words == "light" or words.startswith(("verify ", "trace verify ", "range verify "))
             # A case of a source or a machine that fails has further fields.
-            if words.startswith(("verify ", "trace verify ", "range verify ")) and len(fields) == 2:
+            if is_of_proof and len(fields) == 2:
                 yield words, bytes.fromhex(fields[1]), told.rstrip("\n").split("\n")
 
 

@@ -8,10 +8,10 @@ of tools/cases/growing_roots.py and tools/cases/proof_cases.py.
 from cases.block_files import OK, block_file, calls, deploys, sets
 from cases.fault_cases import EXPOSE, FILE, FRAMES, HEAD_BLOCK, KNOWN, LINES, LOG, PROOF, QUESTIONS, ROOTS, ROWS
 from cases.fault_cases import ANCESTORS, RANGE_PROOF, RANGE_VERIFY, TRACE_PROOF, TRACE_VERIFY, USES, VERIFY, VERSIONS
-from cases.fault_cases import log_of_first
+from cases.fault_cases import LIGHT_INPUT, LIGHT_LINES, log_of_first
 from cases.generated_loads import load_line
 from cases.growing_roots import growing_roots
-from cases.log_cases import ALREADY, DONE, SCRATCH_FAULT, LogCase, frames_of, log_of, upgraded
+from cases.log_cases import ALREADY, DONE, REJECTED, SCRATCH_FAULT, LogCase, frames_of, log_of, upgraded
 from cases.proof_cases import proof_of
 from cases.range_cases import range_proof_of
 from cases.root_cases import History, Row, block_digests
@@ -82,8 +82,8 @@ def with_room(case, room_calls, room_bytes):
 
 def failing_questions():
     """The commands over the log with each call of the device failing. A question about rows makes none; `root`,
-    `trace`, `range` and the proofs put each body; and one at an earlier block reads a body of a lineage of the first
-    blocks."""
+    `trace`, `range`, `light make` and the proofs put each body; and one at an earlier block reads a body of a lineage
+    of the first blocks."""
     rows = len(ROWS)
     digests = block_digests(FRAMES)
     earlier = proof_of(History(ROWS[:1]), digests[0], "hist", "raw/a", 0, 0).hex() + "\n"
@@ -190,6 +190,7 @@ def without_device():
     yield LogCase(TRACE_VERIFY, b"hello", "".join(ANCESTORS), file=source, scratch="0")
     source = RANGE_PROOF.encode("ascii")
     yield LogCase(RANGE_VERIFY, b"hello", "".join(VERSIONS), file=source, scratch="0")
+    yield LogCase("light", b"hello", "".join(LIGHT_LINES), REJECTED, file=LIGHT_INPUT, scratch="0")
     yield LogCase("scan hist raw/b 2", b"", "block 2 tx 0 int 2\n", file=FILE, scratch="0")
     yield LogCase("fmt", b"", "fn f() {\n}\n", file=b"fn f(){}", scratch="0")
     yield LogCase("pack", b"", "", file=b"[]", scratch="0")

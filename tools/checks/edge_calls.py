@@ -12,13 +12,14 @@ import tempfile
 from cases.block_files import block_file, sets
 from cases.generated_chain import Generated
 from cases.growing_roots import growing_roots
+from cases.light_cases import pieces
 from cases.log_cases import ALREADY, BEYOND, DISK_FAULT, DONE, FIRST_GATE, HEAD, MARK, MEMORY, REFUSED, SCRATCH_FAULT
 from cases.log_cases import SET_FILE, SET_LINE, SET_LOG, UNREADABLE, UNTOLD, USAGE, frames_of, log_of, upgraded
 from cases.root_cases import History, Row
 from checks.disk_calls import CREATE, LOCK, NEW, SYNCS, TRUNCATE
 from checks.log_runs import LOG, held_frames, is_marked, known_lines
 from checks.program_cases import MADE_FROM, RAW_A_PROOF, RECALL_FILE, RECALL_LINES, RECALL_LOG, RECALL_ROWS, S1, USED
-from checks.program_cases import BATCH, OF_PART, VERIFY
+from checks.program_cases import BATCH, OF_PART, RECALL_LIGHT, SET_FRAME, SET_LIGHT, SET_TOLD, VERIFY
 from checks.program_runs import take_rights
 from checks.recall_chains import chain_of, over, recall_chain
 
@@ -196,6 +197,8 @@ RUNS = [
     (QUESTION, b"", RECALL_LOG, USED_LINES),
     (S1.decode(), b"", RECALL_LOG, MADE_FROM.splitlines(keepends=True)),
     (OF_PART.decode(), b"", RECALL_LOG, BATCH.splitlines(keepends=True)),
+    ("light make", b"", RECALL_LOG, [piece.decode("latin-1") for piece in pieces(RECALL_LIGHT)]),
+    ("light", SET_LIGHT + SET_FRAME, None, SET_TOLD.splitlines(keepends=True)),
 ]
 
 

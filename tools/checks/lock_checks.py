@@ -15,7 +15,7 @@ from checks.disk_calls import get, put
 from checks.edge_calls import FRAMES, LINES, MARKED_LOG, changes, steps
 from checks.log_runs import LINE_LIMIT, LOG, append, ask, held_frames, is_marked, known_lines, read_line, start_append
 from checks.log_runs import without_roots
-from checks.program_cases import EXPOSE, RAW_A_PROOF, RECALL_FILE, RECALL_LOG, RECALL_ROOTS, USED
+from checks.program_cases import EXPOSE, RAW_A_PROOF, RECALL_FILE, RECALL_LOG, RECALL_ROOTS, SET_LIGHT, USED
 
 # How many bytes of a frame are part of it.
 PART = 2
@@ -101,6 +101,8 @@ def lock_of_another(checks, watched):
         checks.same("trace meanwhile", ask(watched.program, folder, *"trace raw/a 0".split()), told)
         told = "versions 1\nblock 0 tx 0 int 5\n", DONE
         checks.same("range meanwhile", ask(watched.program, folder, *"range raw/a 0 0".split()), told)
+        ran = watched.run_over(folder, "light make")
+        checks.same("light make meanwhile", (ran.told, ran.status), (SET_LIGHT.decode("latin-1"), DONE))
 
 
 def lock_of_a_run(checks, watched):

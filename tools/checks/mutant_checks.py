@@ -2,8 +2,8 @@
 
 Nothing of it comes from what the program told: blocks, files and logs are read by
 tools/cases/block_reader.py, proofs by verifiers/verify.py, roots and proofs of chains without calls worked
-out by tools/cases/root_cases.py, proof_cases.py, trace_cases.py and range_cases.py there from the rows of their
-Sets, and drafts read by Python's reader of JSON.
+out by tools/cases/root_cases.py, proof_cases.py, trace_cases.py, range_cases.py and light_cases.py there from the
+rows of their Sets, and drafts read by Python's reader of JSON.
 """
 import dataclasses
 import itertools
@@ -11,15 +11,16 @@ import json
 import re
 
 from cases.block_files import CONFLICT, FIRST_VERSION, FOREIGN, NO_CONTRACT, OK, SECOND_VERSION, block_file
-from cases.block_files import calls, deploys, number, sets
+from cases.block_files import block_digest, calls, deploys, number, sets
 from cases.block_reader import MAX_BUDGETS, MAX_NUMBER, MAX_TXS, Call, Deploy, Set, stands_for, Chain
+from cases.light_cases import ENTRY_BYTES, HEAD_BYTES, light_file
 from cases.log_cases import ALREADY, BAD_INPUT, BEYOND, DAMAGED, DONE, NOT_A_LOG, REFUSED, REJECTED, USAGE, upgraded
 from cases.proof_cases import answer_of, proof_of
 from cases.range_cases import range_of, range_proof_of
 from cases.root_cases import History, Row, block_digests
 from cases.trace_cases import trace_of, trace_proof_of
-from cases.verifier import text_of, told_of, verify
-from checks.mutants import KINDS, is_made
+from cases.verifier import LIGHT, text_of, told_by_light, told_of, verify
+from checks.mutants import KINDS, LIGHT_MAKE, is_made
 from lineage import draft_faults
 
 MAX_DEPTH = 127
@@ -32,6 +33,7 @@ STATUSES = {
     "expose": {DONE, USAGE, NOT_A_LOG, DAMAGED, BEYOND, REJECTED, BAD_INPUT},
     "trace": {DONE, USAGE, REJECTED, BAD_INPUT},
     "range": {DONE, USAGE, REJECTED, BAD_INPUT},
+    "light": {DONE, USAGE, REFUSED, REJECTED, BAD_INPUT},
     "log": {DONE, USAGE, NOT_A_LOG, DAMAGED, BEYOND},
     "scan": {DONE, USAGE, REFUSED, BEYOND},
     "append": {DONE, USAGE, NOT_A_LOG, DAMAGED, REFUSED},
@@ -198,6 +200,8 @@ def is_command(words):
         asked = words[1 + is_made(words) :]
         is_of_key = len(asked) == 2 + is_made(words) and is_question("back", asked[0])
         return is_of_key and all(map(is_number, asked[1:]))
+    if words[0] == "light":
+        return words in (LIGHT, LIGHT_MAKE)
     if words[0] == "range":
         asked = words[1 + is_made(words) :]
         is_of_key = len(asked) == 3 + is_made(words) and is_question("back", asked[0])
@@ -231,6 +235,35 @@ def check_verify(mutant, result):
     expect("verify", (result.told, result.status, result.read), (told, status, read))
 
 
+def check_light(mutant, result):
+    if check_usage(mutant.words, result):
+        return
+    lines, status, left = told_by_light(mutant.source)
+    wanted = text_of(lines), status, len(mutant.source) - left
+    expect("light", (result.told, result.status, result.read), wanted)
+
+
+def accepted_by_light(source, told):
+    """The proofs that were accepted by the light file of an input: the root of each, its question, and the answer."""
+    for part in re.split(r"^(?=proof )", told, flags=re.M):
+        found = re.match(r"proof \d+ (hist|back|fwd) (\S+) (\d+) root (\d+)\n", part)
+        if found:
+            start = HEAD_BYTES + ENTRY_BYTES * int(found[4]) + ENTRY_BYTES // 2
+            root = source[start : start + ENTRY_BYTES // 2].hex()
+            yield (root, *found.groups()[:3]), re.split(r"^refused ", part[found.end() :], flags=re.M)[0]
+
+
+def check_light_file(chain, made):
+    """A light file that was made has the digest of each block, and the roots; those of small chains are worked out."""
+    digests = [block_digest(frame) for frame in chain.frames]
+    expect("length of the light file", len(made), HEAD_BYTES + ENTRY_BYTES * len(digests))
+    entries = [made[at : at + ENTRY_BYTES] for at in range(HEAD_BYTES, len(made), ENTRY_BYTES)]
+    roots = [entry[ENTRY_BYTES // 2 :] for entry in entries]
+    expect("light file", made, light_file(digests, roots))
+    for at, root in enumerate(roots):
+        check_root(chain, at, root.hex())
+
+
 def check_expose(mutant, result):
     words, size = mutant.words, len(mutant.source)
     told, status = verified(mutant)
@@ -256,6 +289,9 @@ def check_log(mutant, result):
     if line:
         status = NOT_A_LOG if line.startswith("not") else DAMAGED
         return expect("log", (result.told, result.status), (line, status))
+    if words == LIGHT_MAKE:
+        expect("status", result.status, DONE)
+        return check_light_file(chain, result.frames)
     numbers = [int(word) for word in words[1 if words[0] == "root" else 3 if is_made(words) else 2 :]]
     head = len(chain.blocks) - 1
     is_past = is_made(words) and numbers[-2] > numbers[-1]
@@ -384,6 +420,7 @@ COMMANDS = {
     "expose": check_expose,
     "trace": check_verify,
     "range": check_verify,
+    "light": check_light,
     "log": check_log,
     "scan": check_scan,
     "append": check_append,

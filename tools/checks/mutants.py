@@ -12,6 +12,7 @@ from cases.block_reader import MAX_TXS, Fields, Invalid
 from cases.drawn_ranges import drawn_range
 from cases.drawn_traces import drawn_trace
 from cases.generated_chain import Generated
+from cases.light_cases import HEAD_BYTES, frame, light_file
 from cases.log_cases import CLOSED, HEAD, MARK, OPEN, frames_of, log_of
 from cases.proof_cases import KINDS
 from cases.verifier import root_of, verify
@@ -28,8 +29,12 @@ GENERATED = (40, 7)
 TXS_AT = 37
 # How often each command is, of all mutants.
 SHARES = {
-    "verify": 18, "expose": 8, "trace": 10, "range": 11, "log": 22, "scan": 9, "append": 8, "fmt": 7, "pack": 7,
+    "verify": 16, "expose": 7, "trace": 9, "range": 10, "light": 9, "log": 21, "scan": 8, "append": 7, "fmt": 6,
+    "pack": 7,
 }
+LIGHT_MAKE = ["light", "make"]
+# The light files that are made have so many blocks at most.
+MAX_LIGHT_BLOCKS = 64
 # Numbers at the limits of one, two, four and eight bytes.
 LIMITS = [bytes([byte]) * width for width in (1, 2, 4, 8) for byte in (0x00, 0x7F, 0x80, 0xFF)]
 LIMITS += [OPEN, *(number(of, 2) for of in (64, 65, 1_024, 8_192)), number(1_048_576, 4), number(1_000_001, 4)]
@@ -62,11 +67,13 @@ class Mutant:
 @dataclasses.dataclass
 class Seeds:
     """What the cases have: proofs, each with its words and its log; proofs of ancestors and of ranges, each with its
-    words; logs; block files; block files that are appended to logs; contracts; drafts."""
+    words; light files with proofs behind them; logs; block files; block files that are appended to logs; contracts;
+    drafts."""
 
     proofs: list
     traces: list
     ranges: list
+    lights: list
     logs: list
     files: list
     appended: list
@@ -115,7 +122,9 @@ def read_seeds():
             proof = read_hex(source)
             if proof:
                 found[command].append((words[2:], proof))
-        elif command in ("root", "prove", "upgrade", "trace", "range", *KINDS):
+        elif words == ["light"]:
+            found["light"].append(source)
+        elif command in ("root", "prove", "upgrade", "trace", "range", *KINDS) or words == LIGHT_MAKE:
             found["logs"].append((words, image))
         elif command in ("scan", "append", "fmt", "pack"):
             found[command].append((words, source, image or None))
@@ -128,6 +137,7 @@ def read_seeds():
         found["proofs"],
         found["trace"],
         found["range"],
+        found["light"],
         found["logs"],
         found["scan"],
         found["append"],
@@ -374,6 +384,36 @@ def drawn_mutant(kind, seeds, rng):
     return Mutant(kind, [kind, "verify", *words], digits, None, read_hex(digits) or b"")
 
 
+def light_mutant(seeds, rng):
+    """A light file with proofs behind it, which is changed, or made anew with proofs that are; for most of these the
+    file has the digest and the root to which they lead."""
+    if rng.randrange(3) == 0:
+        source = changes(rng.choice(seeds.lights), seeds.lights, LIMITS, rng)
+    else:
+        given = [rng.choice(seeds.proofs)[1] for _ in range(rng.choice([1, 1, 2, 3]))]
+        proofs = [changes(proof, seeds.proof_bytes(), LIMITS, rng) if rng.randrange(5) else proof for proof in given]
+        source = light_of(proofs, rng) + b"".join(map(frame, proofs))
+        if rng.randrange(6) == 0:
+            front = source[HEAD_BYTES:]
+            source = source[:HEAD_BYTES] + overwritten(front, [front], [*LIMITS, number(1_048_577, 4)], rng)
+    words = ["light"] if rng.randrange(60) else rng.choice([["light", "x"], ["light", "0"]])
+    return Mutant("light", words, source)
+
+
+def light_of(proofs, rng):
+    """A light file that has, of the root blocks of most of these proofs, what they lead to."""
+    entries = [(bytes(32), bytes(32))] * rng.randrange(3)
+    for proof in proofs:
+        try:
+            read = verify.read_proof(proof, verify.OF_ANSWER)
+        except verify.Stop:
+            continue
+        if read.root_block < MAX_LIGHT_BLOCKS and rng.randrange(8):
+            entries += [(bytes(32), bytes(32))] * (read.root_block + 1 - len(entries))
+            entries[read.root_block] = read.block_digest, verify.root_of(read)
+    return light_file([digest for digest, _ in entries], [root for _, root in entries])
+
+
 def appended_file(image, seeds, rng):
     """A file that is appended to a log: any; or blocks that follow those of the log, of either version."""
     file, held = rng.choice(seeds.appended)[1], held_frames(image)
@@ -407,7 +447,7 @@ def log_mutant(seeds, rng):
         traces = rng.choice([["trace", key, "0"], ["trace", key, "1"], ["trace", "prove", key, "0", "0"]])
         ranges = [["range", key, "0", "1"], ["range", key, "1", "2"], ["range", "prove", key, "0", "1", "1"]]
         proofs = ["prove", rng.choice(KINDS), key, "0", "0"]
-        words = rng.choice([words, [rng.choice(KINDS), key], proofs, traces, rng.choice(ranges)])
+        words = rng.choice([words, [rng.choice(KINDS), key], proofs, traces, rng.choice(ranges), LIGHT_MAKE])
     return Mutant("log", list(words), b"", image)
 
 
@@ -425,6 +465,8 @@ def mutant(place, seeds):
         return proof_mutant(kind, seeds, rng)
     if kind in ("trace", "range"):
         return drawn_mutant(kind, seeds, rng)
+    if kind == "light":
+        return light_mutant(seeds, rng)
     if kind == "log":
         return log_mutant(seeds, rng)
     if kind in ("scan", "append"):

@@ -17,7 +17,7 @@ import tempfile
 from places import TOP
 
 PAGES = ["README.md", "examples/README.md"]
-PAGES += [f"docs/{name}.md" for name in ("language", "log", "roots", "proofs")]
+PAGES += [f"docs/{name}.md" for name in ("language", "log", "roots", "proofs", "light")]
 PAGES += sorted(f"docs/examples/{name}" for name in os.listdir(f"{TOP}/docs/examples"))
 INDENT = "    "
 PROMPT = f"{INDENT}$ "

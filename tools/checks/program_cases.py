@@ -8,8 +8,11 @@ import json
 from cases.block_files import block_file
 from cases.generated_chain import spelled
 from cases.generated_loads import load_line
+from cases.light_cases import accepted, frame, light_file, light_file_of
 from cases.log_cases import ALREADY, MARK, OPEN, SET_FILE, SET_LINE, SET_LOG, SET_ROWS, frames_of, log_of, upgraded
-from cases.root_cases import History, Row, digest_of, roots
+from cases.proof_cases import answer_of, proof_of
+from cases.root_cases import History, Row, block_digests, digest_of, roots
+from cases.verifier import text_of
 from cases.version_cases import DROPS, EDITIONS, SECOND_SET, of_versions
 from checks.log_runs import NO_ROOT
 from checks.program_runs import TOP, Case
@@ -122,7 +125,8 @@ def shelf_rows():
 
 SHELF_ROWS = list(shelf_rows())
 SHELF_HEAD = len(frames_of(SHELF_FILE)) - 1
-SHELF_ROOT = roots(frames_of(SHELF_FILE), SHELF_ROWS)[SHELF_HEAD]
+SHELF_ROOTS = [bytes.fromhex(root) for root in roots(frames_of(SHELF_FILE), SHELF_ROWS)]
+SHELF_ROOT = SHELF_ROOTS[SHELF_HEAD].hex()
 # All that the shelf s7 held in the blocks of one month; and a proof of that under the root of the last block, of 2,685
 # bytes, in hex and a line end, by docs/proofs.md. The count of headers stands at the offset 228; then come the headers
 # of the blocks 64, 62, 61, 58, 51, 45, 44, 38 and 33, that of block 44 at 1,558, the next one at 1,791 and the last at
@@ -162,6 +166,38 @@ WITHOUT_33 = may_proof(8, (232, 1988), (2293, 2629))
 TWICE_33 = may_proof(10, (232, 2293), (1988, 2293), (2293, 2685), (2629, 2685))
 SWAPPED = may_proof(9, (232, 2293), (2349, 2405), (2293, 2349), (2405, 2685))
 SECOND_BODY = digest_of(b"\3" + bytes.fromhex(MAY_PROOF[2 * 2349 : 2 * 2405].decode())).hex()
+
+# The light file of these blocks; and what the shop shows of the evening of June 3: questions about its shelves, the
+# proofs of them by the root of that block, and what is told of these.
+EVENING = 64
+ASKED = [("hist", "shelf/s7"), ("back", "shelf/s7"), ("hist", "shelf/s8"), ("hist", "shelf/s9")]
+SHELF_LIGHT = light_file_of(SHELF_FILE, SHELF_ROWS)
+SHELF_DIGESTS = block_digests(frames_of(SHELF_FILE))
+
+
+def shelf_proof(kind, key, at):
+    """The proof of a question by the root at its block."""
+    return proof_of(History(SHELF_ROWS), SHELF_DIGESTS[at], kind, key, at, at)
+
+
+def shelf_lines(number, kind, key, at):
+    """What is told of the proof of this number."""
+    return text_of(accepted(number, kind, key, at, at, answer_of(SHELF_ROWS, kind, key, at, at)))
+
+
+EVENING_PROOFS = [shelf_proof(*asked, EVENING) for asked in ASKED]
+EVENING_FRAMES = b"".join(map(frame, EVENING_PROOFS))
+EVENING_TOLD = "".join(shelf_lines(number, *asked, EVENING) for number, asked in enumerate(ASKED))
+# The light files of the blocks before that one, and of all with another digest and another root of it.
+BEFORE_EVENING = light_file(SHELF_DIGESTS[:EVENING], SHELF_ROOTS[:EVENING])
+AFTER_EVENING = SHELF_LIGHT[8 + 64 * (EVENING + 1) :]
+OTHER_DIGEST = SHELF_LIGHT[: 8 + 64 * EVENING] + bytes(32) + SHELF_ROOTS[EVENING] + AFTER_EVENING
+OTHER_ROOT = SHELF_LIGHT[: 8 + 64 * EVENING] + SHELF_DIGESTS[EVENING] + bytes(32) + AFTER_EVENING
+# The light files of ONE_SET, of the three blocks of RECALL, and of no block.
+SET_LIGHT, RECALL_LIGHT = light_file_of(SET_FILE, SET_ROWS), light_file_of(RECALL_FILE, RECALL_ROWS)
+NO_LIGHT = b"LCH1" + bytes(4)
+SET_FRAME = frame(bytes.fromhex(RAW_A_PROOF.decode()))
+SET_TOLD, SET_TOLD_AS_1 = (f"proof {number} hist raw/a 0 root 0\n{SET_ANSWER}" for number in range(2))
 
 # All versions of a part.
 OF_PART, BATCH = b"range raw/part/p1 0 2", "versions 1\nblock 0 tx 0 text batch 17\n"
@@ -306,6 +342,19 @@ CASES = [
     Case(PROVE_MAY, None, "", 12, log=SHELF_LOG, is_read_only=True),
     Case(VERIFY_MAY, MAY_PROOF, IN_MAY, 0),
     Case(VERIFY_MAY, MAY_PROOF.rstrip().upper(), IN_MAY, 0, log=b"hello"),
+    # A light file, and proofs that are checked by it. It has the same blocks where the log is marked.
+    Case(b"light make", None, SHELF_LIGHT, 0, log=SHELF_LOG),
+    Case(b"light make", None, SHELF_LIGHT, 0, streams="<&-", log=log_of(SHELF_FILE, b"")),
+    Case(b"light make", None, RECALL_LIGHT, 0, log=RECALL_LOG),
+    Case(b"light make", None, NO_LIGHT, 0),
+    Case(b"light make", None, NO_LIGHT, 0, log=MARKED_EMPTY),
+    Case(b"light make", None, NO_LIGHT, 0, is_read_only=True),
+    Case(b"light make", None, light_file_of(EMPTY_FRAME, []), 0, log=EMPTY_LOG, is_read_only=True),
+    Case(b"light make", None, "", 12, log=SHELF_LOG, is_read_only=True),
+    Case(b"light", SHELF_LIGHT + EVENING_FRAMES, EVENING_TOLD, 0),
+    Case(b"light", SET_LIGHT + SET_FRAME, SET_TOLD, 0, log=b"hello"),
+    Case(b"light", SET_LIGHT, "", 0, log="."),
+    Case(b"light", NO_LIGHT, "", 0),
     # 1: the words are no command: none, too few, one too many before or after those of a command.
     Case(b"", ONE_SET, "usage\n", 1),
     Case(b"scan hist raw/a", ONE_SET, "usage\n", 1),
@@ -348,6 +397,11 @@ CASES = [
     Case(PROVE_MAY + b" 65", None, "usage\n", 1, log=SHELF_LOG),
     Case(VERIFY_MAY.replace(b" 31 61", b" 61 31"), MAY_PROOF, "usage\n", 1),
     Case(VERIFY_MAY + b" 65", MAY_PROOF, "usage\n", 1),
+    Case(b"light 0", SET_LIGHT, "usage\n", 1, log=SET_LOG),
+    Case(b"light raw/a 0", SET_LIGHT, "usage\n", 1, log=SET_LOG),
+    Case(b"light make 0", None, "usage\n", 1, log=SET_LOG),
+    Case(b"light make make", None, "usage\n", 1, log=SET_LOG),
+    Case(b"make light", None, "usage\n", 1, log=SET_LOG),
     Case(EXPOSE + b"0", RAW_A_PROOF, "usage\n", 1, log=SET_LOG),
     # 2: reading fails, and nothing is printed.
     Case(SCAN, None, "", 2, streams="<&-"),
@@ -356,6 +410,8 @@ CASES = [
     Case(b"append", None, "", 2, streams="<&-"),
     Case(VERIFY_S1, None, "", 2, streams="<&-"),
     Case(VERIFY_MAY, None, "", 2, streams="<&-"),
+    Case(b"light", None, "", 2, streams="<&-"),
+    Case(b"light", None, "", 2, streams="</"),
     # The log does not take the place of a stream that is closed.
     Case(b"append", None, "", 2, streams="<&-", log=SET_LOG),
     Case(b"append", None, "", 2, streams="<&- >&- 2>&-", log=SET_LOG),
@@ -382,6 +438,10 @@ CASES = [
     Case(MAY, None, "", 3, streams=">/dev/full", log=SHELF_LOG),
     Case(PROVE_MAY, None, "", 3, streams=">&-", log=SHELF_LOG),
     Case(VERIFY_MAY, MAY_PROOF, "", 3, streams=">&-"),
+    Case(b"light make", None, "", 3, streams=">/dev/full", log=SHELF_LOG),
+    Case(b"light make", None, "", 3, streams=">&-"),
+    Case(b"light", SET_LIGHT + SET_FRAME, "", 3, streams=">/dev/full"),
+    Case(b"light", SET_LIGHT + SET_FRAME, "", 3, streams=">&-"),
     # 4: the log is a folder; a device, of zeros or of nothing; a link to no folder.
     Case(b"append", ONE_SET, "", 4, log="."),
     Case(b"hist raw/a", None, "", 4, log="."),
@@ -389,6 +449,8 @@ CASES = [
     Case(b"hist raw/a", None, "", 4, log="/dev/full"),
     Case(b"append", ONE_SET, "", 4, log="/dev/null"),
     Case(b"root", None, "", 4, log="/dev/null"),
+    Case(b"light make", None, "", 4, log="."),
+    Case(b"light make", None, "", 4, log="/dev/null"),
     Case(b"append", ONE_SET, "", 4, log="none/chain.log"),
     Case(b"upgrade", None, "", 4, log="."),
     Case(b"upgrade", None, "", 4, log="/dev/full"),
@@ -408,6 +470,8 @@ CASES = [
     Case(PROVE_MAY, None, "not a log\n", 6, log=b"hello"),
     Case(MAY, None, "damaged at 8\n", 7, log=SET_LOG[:40]),
     Case(PROVE_MAY, None, "damaged at 8\n", 7, log=SET_LOG[:40]),
+    Case(b"light make", None, "not a log\n", 6, log=b"hello"),
+    Case(b"light make", None, "damaged at 8\n", 7, log=SET_LOG[:40]),
     Case(S1, None, "damaged at 8\n", 7, log=SET_LOG[:40]),
     Case(PROVE_S1, None, "damaged at 8\n", 7, log=SET_LOG[:40]),
     Case(EXPOSE, b"zz", "damaged at 8\n", 7, log=SET_LOG[:40]),
@@ -432,6 +496,14 @@ CASES = [
     Case(b"append", RECALL, "known 0\nrefused frame 1 version 2\n", 8, log=MARKED_RECALL),
     Case(SCAN, CUT_FRAME, "refused frame 0 truncated\n", 8),
     Case(SCAN, SHORT_FRAME, "refused frame 0 malformed 37\n", 8),
+    # What follows a proof that was rejected or accepted.
+    Case(b"light", SET_LIGHT + CUT_FRAME, "refused frame 0 truncated\n", 8),
+    Case(b"light", SET_LIGHT + SET_FRAME + bytes(4) + SET_FRAME, f"{SET_TOLD}refused frame 1 length 0\n", 8),
+    Case(b"light", SET_LIGHT + RAW_A_PROOF, "refused frame 0 length 878916659\n", 8),
+    Case(
+        b"light", NO_LIGHT + SET_FRAME + b"\0\x10\0\1",
+        "proof 0 rejected unknown 0\nrefused frame 1 length 1048577\n", 8,
+    ),
     # 9: there is no such block.
     Case(b"hist raw/a", None, "beyond empty\n", 9),
     Case(b"back raw/a 0", None, "beyond empty\n", 9, log="none/chain.log"),
@@ -503,6 +575,24 @@ CASES = [
     Case(VERIFY_MAY, TWICE_33, "rejected path 9\n", 10),
     Case(VERIFY_MAY, SWAPPED, f"rejected body 0 {SECOND_BODY}\n", 10),
     Case(VERIFY_MAY, may_proof(0), "rejected path 0\n", 10),
+    # By a light file, one proof or each; and the others are accepted.
+    Case(b"light", SET_LIGHT + frame(b"x") + SET_FRAME, f"proof 0 rejected malformed 0\n{SET_TOLD_AS_1}", 10),
+    Case(b"light", SET_LIGHT + frame(RAW_A_PROOF), "proof 0 rejected malformed 0\n", 10),
+    Case(b"light", NO_LIGHT + SET_FRAME, "proof 0 rejected unknown 0\n", 10),
+    Case(b"light", SHELF_LIGHT + SET_FRAME, f"proof 0 rejected digest {SHELF_DIGESTS[0].hex()}\n", 10),
+    Case(
+        b"light", BEFORE_EVENING + EVENING_FRAMES,
+        "".join(f"proof {number} rejected unknown {EVENING}\n" for number in range(len(ASKED))), 10,
+    ),
+    Case(
+        b"light", OTHER_DIGEST + EVENING_FRAMES + frame(shelf_proof(*ASKED[0], EVENING + 1)),
+        "".join(f"proof {number} rejected digest {bytes(32).hex()}\n" for number in range(len(ASKED)))
+        + shelf_lines(len(ASKED), *ASKED[0], EVENING + 1), 10,
+    ),
+    Case(
+        b"light", OTHER_ROOT + EVENING_FRAMES,
+        "".join(f"proof {number} rejected root {SHELF_ROOTS[EVENING].hex()}\n" for number in range(len(ASKED))), 10,
+    ),
     # 11: the input is no contract, no draft or no hex, or too long.
     Case(b"fmt", b"fn f()", "badinput syntax 6 end\n", 11),
     Case(b"fmt", DROPPING, "badinput syntax 14 expected\n", 11),
@@ -528,6 +618,14 @@ CASES = [
     Case(VERIFY_MAY, b"abc", "badinput odd\n", 11),
     Case(VERIFY_MAY, MAY_PROOF[:6] + b"g" + MAY_PROOF[7:], "badinput at 6\n", 11),
     Case(VERIFY_MAY, MAX_SOURCE_BYTES + 1, "badinput long\n", 11),
+    Case(b"light", b"", "badinput light\n", 11),
+    Case(b"light", NO_LIGHT[:-1], "badinput light\n", 11),
+    Case(b"light", ONE_SET, "badinput light\n", 11),
+    Case(b"light", EVENING_FRAMES, "badinput light\n", 11),
+    Case(b"light", SHELF_LIGHT[:-1], "badinput light\n", 11),
+    Case(b"light", MAX_SOURCE_BYTES, "badinput light\n", 11),
+    # What is read takes memory, and not what is said to follow.
+    Case(b"light", b"LCH1" + b"\xff" * 4 + bytes(1_000), "badinput light\n", 11, memory=48_000_000),
     Case(VERIFY, MAX_SOURCE_BYTES, "badinput at 0\n", 11),
     Case(VERIFY, MAX_SOURCE_BYTES + 1, "badinput long\n", 11),
 ]

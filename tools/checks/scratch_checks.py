@@ -20,7 +20,8 @@ from checks.disk_calls import CREATE, NEW, TRUNCATE, get, put
 from checks.edge_calls import ERRORS, FRAMES, LINES, goes_on, some_of_each_kind
 from checks.lock_checks import give, running_append
 from checks.log_runs import LOG, SCRATCH, SCRATCH_FOLDER, held_frames, known_lines
-from checks.program_cases import BATCH, MADE_FROM, OF_PART, RECALL_FILE, RECALL_LOG, RECALL_ROOTS, RECALL_ROWS, S1
+from checks.program_cases import BATCH, MADE_FROM, OF_PART, RECALL_FILE, RECALL_LIGHT, RECALL_LOG, RECALL_ROOTS
+from checks.program_cases import RECALL_ROWS, S1
 from checks.program_runs import take_rights
 
 # The owner alone may open it.
@@ -66,6 +67,7 @@ RUNS = [
     ("upgrade", b"", RECALL_LOG, upgraded(len(FRAMES))),
     (S1.decode(), b"", RECALL_LOG, MADE_FROM),
     (OF_PART.decode(), b"", RECALL_LOG, BATCH),
+    ("light make", b"", RECALL_LOG, RECALL_LIGHT.decode("latin-1")),
     *[(words, b"", RECALL_LOG, earlier_proof(RECALL_ROWS, FRAMES, row.key)) for words, row in PROVED.items()],
     *[(words, b"", RECALL_LOG, earlier_trace(RECALL_ROWS, FRAMES, row.key)) for words, row in TRACED.items()],
     *[(words, b"", RECALL_LOG, earlier_range(RECALL_ROWS, FRAMES, row.key)) for words, row in RANGED.items()],

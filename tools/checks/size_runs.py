@@ -12,12 +12,15 @@ from cases.block_files import calls, deploys, number, sets, string
 from cases.generated_chain import Generated, spelled
 from cases.generated_loads import growing_links, links, load_line
 from cases.growing_roots import growing_roots
+from cases.light_cases import MAX_FRAME_BYTES, accepted, frame, light_file
 from cases.log_cases import BEYOND, DONE, REFUSED, REJECTED, frames_of, log_of, upgraded
+from cases.proof_cases import KINDS
+from cases.proof_cases import MAGIC as PROOF_MAGIC
 from cases.range_cases import body_of, header_of, range_of, range_proof_of, way
 from cases.range_cases import spelled as range_proof
-from cases.root_cases import History, Row, block_digests, roots
+from cases.root_cases import History, Row, block_digests, digest_of, roots, uses_digest
 from cases.trace_cases import trace_of, trace_proof_of
-from cases.verifier import text_of
+from cases.verifier import root_of, text_of
 from checks.program_runs import Case
 
 BAD_INPUT = 11
@@ -28,6 +31,8 @@ MAX_BLOCKS = 1_048_576
 MAX_TEXT_BYTES = {FIRST_VERSION: 1_024, SECOND_VERSION: 8_192}
 MAX_SOURCE_BYTES = 16_384
 MAX_DEPS = 64
+MAX_FRAMES = 2_097_152
+MAX_KEY_BYTES = 64
 MAX_ARGS = 8
 MAX_CALL_BUDGET = 1_000_000
 # The fields of a block before its transactions, and where among them the count of these stands.
@@ -330,6 +335,58 @@ def range_runs():
     yield run(verify, proof, f"rejected path {step}\n", REJECTED)
 
 
+# ---- long light files, and long inputs behind them
+
+
+def users_of_bytes(size):
+    """Rows whose uses have so many bytes in a proof: of each its key, with a length, and its block."""
+    longest = 2 + MAX_KEY_BYTES + 4
+    # The last two share what is left.
+    count, left = divmod(size, longest)
+    sizes = [longest] * (count - 1) + [(longest + left) // 2, (longest + left + 1) // 2]
+    return [Row("a" * (of - 2 - 4), at, 0, 1, []) for at, of in enumerate(sizes)]
+
+
+def drawn_uses_proof(size):
+    """A proof of so many bytes of the uses of a version that no chain wrote, and its lines. It leads to a root by
+    digests that are right, but for that of the block and the hash of the other leaf."""
+    key, body = string("raw/a"), b"\0" + number(5, 8) + number(0, 1)
+    header = key + number(0, 4) + number(0, 2) + digest_of(b"\3" + body) + number(0, 8) + uses_digest([]) + number(0, 1)
+
+    def with_uses(uses):
+        leaf = key + b"\0" + number(0, 4) + digest_of(b"\2" + header) + number(len(uses), 8) + uses_digest(uses)
+        proof = PROOF_MAGIC + number(KINDS.index("fwd"), 1) + key + number(0, 4) + number(0, 4) + bytes(32)
+        proof += number(2, 4) + number(1, 4) + leaf + number(1, 1) + bytes(32) + number(1, 1) + header + body
+        return proof + number(len(uses), 4) + b"".join(string(use.key) + number(use.block, 4) for use in uses)
+
+    uses = users_of_bytes(size - len(with_uses([])))
+    lines = [f"block 0 uses {len(uses)}", *(f"{use.key} {use.block}" for use in uses)]
+    return with_uses(uses), lines
+
+
+def light_runs():
+    """The light file of more blocks than a piece has; a proof that takes a whole frame, and one of a byte more, which
+    has none; and as many frames as may stand behind a light file, and one more."""
+    made = Generated(2_000, 7)
+    chain = Chain(made.file, made.rows, made.plain_lines())
+    light = light_file(block_digests(chain.frames), map(bytes.fromhex, chain.roots))
+    yield run(b"light make", None, light, log=chain.log)
+    for size in (MAX_FRAME_BYTES, MAX_FRAME_BYTES + 1):
+        proof, lines = drawn_uses_proof(size)
+        assert len(proof) == size
+        root = root_of(proof)
+        yield run(f"verify {root.hex()} fwd raw/a 0".encode(), proof.hex().encode(), text_of(lines))
+        one = light_file([bytes(32)], [root])
+        if size == MAX_FRAME_BYTES:
+            told = text_of(accepted(0, "fwd", "raw/a", 0, 0, lines))
+            yield run(b"light", one + frame(proof), told)
+        else:
+            yield run(b"light", one + frame(proof), f"refused frame 0 length {size}\n", REFUSED)
+    no_proofs = light_file([], []) + frame(b"x") * (MAX_FRAMES + 1)
+    told = "".join(f"proof {at} rejected malformed 0\n" for at in range(MAX_FRAMES))
+    yield run(b"light", no_proofs, f"{told}refused frame {MAX_FRAMES} many\n", REFUSED)
+
+
 # ---- limits of a transaction, in a block and in a draft
 
 
@@ -429,6 +486,6 @@ def size_runs():
     """All runs."""
     for part in [
         generated_runs, level_runs, full_runs, txs_runs, long_block_runs, uses_runs, trace_runs, range_runs,
-        limit_runs, deps_runs, args_runs, sum_runs,
+        light_runs, limit_runs, deps_runs, args_runs, sum_runs,
     ]:
         yield from part()

@@ -9,8 +9,8 @@ from cases.log_cases import (
     log_of,
 )
 from checks.program_cases import (
-    BANK, DRAFT, EXPOSE, MARKED_LOG, MAY, MAY_PROOF, PROVE_MAY, PROVE_S1, RAW_A_PROOF, RECALL_FILE, RECALL_LOG, S1,
-    S1_PROOF, SHELF_LOG, VERIFY, VERIFY_MAY, VERIFY_S1,
+    BANK, DRAFT, EVENING_FRAMES, EXPOSE, MARKED_LOG, MAY, MAY_PROOF, NO_LIGHT, PROVE_MAY, PROVE_S1, RAW_A_PROOF,
+    RECALL_FILE, RECALL_LOG, S1, S1_PROOF, SET_FRAME, SET_LIGHT, SHELF_LIGHT, SHELF_LOG, VERIFY, VERIFY_MAY, VERIFY_S1,
 )
 from checks.program_runs import TOP
 
@@ -103,6 +103,18 @@ OTHERS = [
     Command(VERIFY_MAY.decode(), MAY_PROOF),
     Command(VERIFY_MAY.decode().replace("s7", "s8"), MAY_PROOF, status=REJECTED),
     Command(VERIFY_MAY.decode(), b"zz", status=BAD_INPUT),
+    Command("light make", log=RECALL_LOG),
+    Command("light make", log=BANK_LOG),
+    Command("light make", log=SHELF_LOG),
+    Command("light make"),
+    Command("light make", log=b"hello", status=NOT_A_LOG),
+    Command("light make", log=SET_LOG[:40], status=DAMAGED),
+    Command("light", SET_LIGHT + SET_FRAME),
+    Command("light", SHELF_LIGHT + EVENING_FRAMES),
+    Command("light", SET_LIGHT + NO_LIGHT + SET_FRAME, status=REFUSED),
+    Command("light", NO_LIGHT + SET_FRAME, status=REJECTED),
+    Command("light", SET_LIGHT[:-1], status=BAD_INPUT),
+    Command("light x", SET_LIGHT, status=USAGE),
     Command("fmt", read(f"{TOP}/examples/shop.contract")),
     Command("fmt 2", read(f"{TOP}/examples/lot.contract")),
     Command("fmt", b"fn f() { a = 1; }", status=BAD_INPUT),

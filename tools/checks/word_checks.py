@@ -29,9 +29,9 @@ from cases.block_files import (
 )
 from cases.log_cases import CLOSED, CLOSED_HEAD, HEAD, OPEN, SET_FILE, SET_LOG
 from checks.log_runs import LOG
-from checks.program_cases import MAY_PROOF, PROVE_S1, RAW_A_PROOF, RAW_A_ROOT, RECALL_FILE, RECALL_LOG, RECALL_ROOTS
-from checks.program_cases import SHELF_ROOT
-from lineage.statuses import BAD_INPUT, DAMAGED, DISK_FAULT, DONE, NOT_A_LOG, REJECTED, UNTOLD
+from checks.program_cases import EVENING_FRAMES, EVENING_TOLD, MAY_PROOF, PROVE_S1, RAW_A_PROOF, RAW_A_ROOT
+from checks.program_cases import RECALL_FILE, RECALL_LOG, RECALL_ROOTS, SET_LIGHT, SHELF_LIGHT, SHELF_ROOT
+from lineage.statuses import BAD_INPUT, DAMAGED, DISK_FAULT, DONE, NOT_A_LOG, REFUSED, REJECTED, UNTOLD, USAGE
 from lineage.told_statuses import STATUSES
 from places import TOP
 
@@ -334,6 +334,19 @@ def verifier_words(checks, wrapper):
     checks.same("the status of its help", (ran.returncode, ran.stderr), (DONE, b""))
     for form in (b"ROOT KIND KEY BLOCK", b"trace ROOT KEY BLOCK", b"range ROOT KEY FROM TO"):
         checks.holds(f"its help has the words {form}", b"verify.py " + form + b" < PROOF" in ran.stdout)
+    checks.holds("its help has the word `light`", b"verify.py light < LIGHT_FILE_AND_PROOFS" in ran.stdout)
+    for words, source, printed, status in [
+        (["light"], SHELF_LIGHT + EVENING_FRAMES, EVENING_TOLD, DONE),
+        (["light"], SET_LIGHT + EVENING_FRAMES[:-1], REJECTED_THEN_CUT, REFUSED),
+        (["light"], SHELF_LIGHT[:-1], "badinput light\n", BAD_INPUT),
+        (["light", "make"], b"", "usage\n", USAGE),
+        (["light", "x"], SHELF_LIGHT, "usage\n", USAGE),
+    ]:
+        ran = subprocess.run([*verifier, *words], input=source, **streams)
+        name = f"{' '.join(words)} over {len(source)} bytes by the second verifier"
+        checks.same(name, (ran.stdout, ran.returncode, ran.stderr), (printed.encode(), status, b""))
+    checks.same("the light file of the examples", read(f"{TOP}/examples/shelf.light"), SHELF_LIGHT)
+    checks.same("the proofs of the examples", read(f"{TOP}/examples/june-3.proofs"), EVENING_FRAMES)
     words = [RAW_A_ROOT, "fwd", "raw/a", "0"]
     ran = subprocess.run([*verifier, *words], input=RAW_A_PROOF, **streams)
     checks.same("what is printed of another question", (ran.stdout, ran.returncode), (b"rejected query\n", REJECTED))
@@ -365,6 +378,16 @@ def verifier_words(checks, wrapper):
     checks.same("what is printed of another range", (ran.stdout, ran.returncode), (b"rejected query\n", REJECTED))
     said = b"verify.py: the proof is of another question: range shelf/s7 31 61\n"
     checks.same("what is said of it", ran.stderr, said)
+
+
+# What is told of three proofs by the light file of another chain, and of a frame that is cut.
+REJECTED_THEN_CUT = "".join(f"proof {number} rejected unknown 1\n" for number in range(3))
+REJECTED_THEN_CUT += "refused frame 3 truncated\n"
+
+
+def read(path):
+    with open(path, "rb") as file:
+        return file.read()
 
 
 # Questions about the recall log, and lines that are shown of their proofs under the root of its last block.

@@ -15,12 +15,14 @@ import tempfile
 from cases.block_files import (
     FIRST_VERSION, NO_CONTRACT, SECOND_VERSION, block_digest, block_file, block_frame, calls, sets,
 )
+from cases.light_cases import frame
 from cases.log_cases import CLOSED, CLOSED_HEAD, HEAD, NOT_A_LOG, OPEN, REFUSED, SET_FILE, SET_LINE, SET_LOG
 from checks import build_checks, disk_calls, page_runs, word_checks
 from checks.log_runs import LOG
 from checks.program_cases import (
-    CASES, LOT, MAY_PROOF, PART, RAW_A_PROOF, RAW_A_ROOT, RECALL_FILE, RECALL_LOG, S1_PROOF, SHELF_LOG, SWAPPED,
-    VERIFY_MAY, VERIFY_S1, WITHOUT_33, WITHOUT_44, s1_proof,
+    CASES, EVENING_FRAMES, LOT, MAY_PROOF, NO_LIGHT, OTHER_DIGEST, PART, RAW_A_PROOF, RAW_A_ROOT, RECALL_FILE,
+    RECALL_LOG, S1_PROOF, SET_FRAME, SET_LIGHT, SHELF_LIGHT, SHELF_LOG, SWAPPED, VERIFY_MAY, VERIFY_S1, WITHOUT_33,
+    WITHOUT_44, s1_proof,
 )
 from checks.program_runs import TOP, check_case, take_rights
 from lineage import commands, lineage_input, lineage_messages, statuses
@@ -173,6 +175,26 @@ SAID = [
     (RANGE_VERIFY, b"abc", None, "the number of digits is odd"),
     (RANGE_VERIFY, SET_FILE, None, "looks like a block file"),
     ("append", MAY_PROOF, None, "looks like a proof of a range in hex"),
+    ("light x", b"", None, "word 2, `x`, is not `make`"),
+    ("light make x", b"", None, "these are 3 words, and the command is `light make` or `light`"),
+    ("light make", b"", SET_LOG[:40], "was changed or cut"),
+    ("light", SET_LIGHT[:-1], None, "doesn't begin with a light file, or ends within it"),
+    ("light", b"", None, "`./lineage light make` makes one"),
+    ("light", SET_FILE, None, "looks like a block file"),
+    ("light", RAW_A_PROOF, None, "looks like a proof in hex: `./lineage verify ROOT"),
+    ("light", SET_LIGHT + bytes(4), None, "its length is 0, and a proof behind a light file has 1 to 1,048,576 bytes"),
+    ("light", SET_LIGHT + SET_FRAME[:-1], None, "the input ends within this frame"),
+    ("light", SET_LIGHT + b"\0\0\0\1x" + SET_FRAME + b"\0", None, "the input ends within this frame"),
+    ("light", NO_LIGHT + SET_FRAME, None, "proof 0: its root is that of a block past the 0 of the light file"),
+    ("light", OTHER_DIGEST + EVENING_FRAMES, None, "4 proofs are not accepted"),
+    ("light", OTHER_DIGEST + EVENING_FRAMES, None, "proof 0: the digest of its root block is another than that"),
+    ("light", SET_LIGHT + SET_FRAME + b"\0\0\0\1x", None, "proof 1: these are not the bytes of a proof"),
+    ("light", SET_LIGHT[:-1] + b"\0" + SET_FRAME, None, "one proof is not accepted"),
+    ("light", SET_LIGHT[:-1] + b"\0" + SET_FRAME, None, "proof 0: the proof leads to another root, 41f6"),
+    ("light", SET_LIGHT + SET_FRAME + frame(RAW_A_PROOF), None, "proof 1: it is in hex"),
+    ("append", SHELF_LIGHT, None, "looks like a light file: `./lineage light` reads it"),
+    (f"verify {RAW_A_ROOT} hist raw/a 0", SET_LIGHT, None, "looks like a light file"),
+    ("hist raw/a", b"", SET_LIGHT, f"{LOG} looks like a light file"),
     ("hist raw/a", b"", b"hello", "something else than a log"),
     ("hist raw/a", b"", SET_LOG[:40], "was changed or cut"),
     ("scan hist raw/a 0", SET_LOG, None, "looks like a log: ask `hist`"),

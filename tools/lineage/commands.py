@@ -55,14 +55,16 @@ class Command:
         # What it reads, for a person; nothing where it reads nothing.
         self.input = uses.get("input")
         self.reads_input = self.input is not None
+        self.takes_frames = self.input in (BLOCKS, LIGHT)
         # Whether it reads its whole input before it prints anything.
-        self.reads_whole = self.reads_input and self.input is not BLOCKS
-        self.takes_frames = self.input is BLOCKS
+        self.reads_whole = self.reads_input and not self.takes_frames
         self.uses_log = uses.get("uses_log", False)
         # Whether it writes to the log, and so locks it.
         self.changes_log = uses.get("changes_log", False)
         self.uses_scratch = uses.get("uses_scratch", False)
+        # Whether it checks a proof in hex, or proofs by a light file.
         self.checks_proof = self.input in (PROOF, TRACE_PROOF, RANGE_PROOF)
+        self.checks_by_light = self.input is LIGHT
         is_of_block = "BLOCK" in form or form.endswith(" TO")
         self.asks_for_block = is_of_block and (self.takes_frames or self.uses_log)
         # Whether it asks about a block by the root at another one, which must not come before it.
@@ -83,8 +85,8 @@ class Command:
             DAMAGED: self.uses_log,
             REFUSED: self.takes_frames,
             BEYOND: self.asks_for_block,
-            REJECTED: self.checks_proof,
-            BAD_INPUT: self.reads_whole,
+            REJECTED: self.checks_proof or self.checks_by_light,
+            BAD_INPUT: self.reads_whole or self.checks_by_light,
             SCRATCH_FAULT: self.uses_scratch,
         }
         return [status for status in MEANINGS if may_be.get(status, status != USAGE)]
@@ -94,6 +96,7 @@ BLOCKS = "a block file"
 PROOF = "a proof in hex digits"
 TRACE_PROOF = "a proof of ancestors in hex digits"
 RANGE_PROOF = "a proof of a range in hex digits"
+LIGHT = "a light file, and proofs as frames behind it"
 BAD_FRAME = ("refused frame I CAUSE", "the frame with number I of the input, from 0, is refused")
 NO_BLOCK = ("beyond empty, beyond head H", "there is no block, or BLOCK is past the last one, H")
 NO_LAST_BLOCK = ("beyond empty, beyond head H", "there is no block, or TO is past the last one, H")
@@ -246,6 +249,27 @@ COMMANDS = [
         [*VERSIONS, *BAD_PROOF],
         f"./lineage range verify {SHELF_ROOT} shelf/s7 31 61 < examples/shelf-s7.proof",
         input=RANGE_PROOF,
+    ),
+    Command(
+        "light make",
+        "a light file: digest and root of each block, by chain.log",
+        [("bytes", "the light file"), NO_LOG],
+        "./lineage light make > chain.light",
+        uses_log=True,
+        uses_scratch=True,
+    ),
+    Command(
+        "light",
+        "what proofs show, by the light file before them",
+        [
+            ("proof I KIND KEY T root R", "proof I, from 0, of that question is accepted by the root at R; then"),
+            *ANSWERS,
+            ("proof I rejected CAUSE", "the first check of proof I that fails, and what it reports"),
+            BAD_FRAME,
+            ("badinput light", "the input doesn't begin with a light file"),
+        ],
+        "cat examples/shelf.light examples/june-3.proofs | ./lineage light",
+        input=LIGHT,
     ),
     Command(
         "fmt [2]",

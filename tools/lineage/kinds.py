@@ -8,9 +8,10 @@ MAGIC_OF_LOG = b"LCLOG1\n"
 MAGIC_OF_PROOF = b"LCP1"
 MAGIC_OF_TRACE = b"LCT1"
 MAGIC_OF_RANGE = b"LCR1"
+MAGIC_OF_LIGHT = b"LCH1"
 # The versions of blocks, which stand in the first byte of each.
 FIRST_VERSION, SECOND_VERSION = VERSIONS = 1, 2
-LOG, DRAFT, PROOF, TRACE, RANGE, BYTES_OF_PROOF, BLOCK_FILE, CONTRACT = range(8)
+LOG, DRAFT, PROOF, TRACE, RANGE, LIGHT, BYTES_OF_PROOF, BLOCK_FILE, CONTRACT = range(9)
 # What each is, and what to do with it.
 WHAT_TO_DO = {
     LOG: (
@@ -22,6 +23,7 @@ WHAT_TO_DO = {
     PROOF: ("a proof in hex", "`./lineage verify ROOT KIND KEY BLOCK` reads it"),
     TRACE: ("a proof of ancestors in hex", "`./lineage trace verify ROOT KEY BLOCK` reads it"),
     RANGE: ("a proof of a range in hex", "`./lineage range verify ROOT KEY FROM TO` reads it"),
+    LIGHT: ("a light file", "`./lineage light` reads it, with proofs behind it"),
     BYTES_OF_PROOF: ("the bytes of a proof", "a proof is read in hex: xxd -p < PROOF | tr -d '\\n'"),
     BLOCK_FILE: ("a block file", "`./lineage append` and `./lineage scan KIND KEY BLOCK` read it"),
     CONTRACT: ("a contract", "`./lineage fmt` reads it; to deploy it, name it in a draft, and pack that"),
@@ -34,6 +36,7 @@ READS = {
     "expose": PROOF,
     "trace": TRACE,
     "range": RANGE,
+    "light": LIGHT,
     "fmt": CONTRACT,
     "pack": DRAFT,
 }
@@ -49,6 +52,8 @@ def kind_of(first):
             return BYTES_OF_PROOF
         if first.startswith(magic.hex().encode()):
             return kind
+    if first.startswith(MAGIC_OF_LIGHT):
+        return LIGHT
     if 1 <= length <= MAX_BLOCK_BYTES and len(first) > 4 and first[4] in VERSIONS:
         return BLOCK_FILE
     if re.match(rb"\s*[\[{]", first):

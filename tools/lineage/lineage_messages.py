@@ -71,6 +71,9 @@ CAUSES = {
     "budget": ("S", "the budgets of its calls come to {}; those of a block may come to 10,000,000"),
 }
 REFUSED = "a frame is refused; frames count from 0"
+# The same of the frames behind a light file, where a length means something else.
+LIGHT_LENGTH = "its length is {}, and a proof behind a light file has 1 to 1,048,576 bytes"
+LIGHT_CAUSES = {cause: CAUSES[cause] for cause in ("truncated", "length", "many")} | {"length": ("L", LIGHT_LENGTH)}
 # Which check of a proof fails: what is printed after `rejected`, and what that means.
 REJECTED = {
     "malformed": "these are not the bytes of a proof: the first invalid field is at offset {}",
@@ -108,6 +111,13 @@ HEX_FAULTS = {
     "at": "a proof is in hex, and the byte at offset {} of the input is no hex digit",
 }
 NO_HEX = "the input is no hex"
+# What else `light` tells of a proof.
+REJECTED_BY_LIGHT = {
+    "unknown": "its root is that of a block past the {} of the light file",
+    "digest": "the digest of its root block is another than that of the light file, {}",
+}
+NO_LIGHT = "the input doesn't begin with a light file, or ends within it; `./lineage light make` makes one"
+IN_HEX = "it is in hex, and a proof stands behind its length as bytes: xxd -r -p < PROOF"
 
 
 def say(text):
@@ -286,14 +296,16 @@ def space_causes(writes):
 def refused_sentence(program, words, start):
     """Why a frame was refused; where the input can't be read again, why frames are."""
     printed = b"" if start is None else refused_line(program, words, start)
-    refused = re.match(r"refused frame \d+ (\w+) ?(\w*)\n$", printed.decode("ascii", "replace"))
-    if not refused or refused[1] not in CAUSES:
+    by_light = commands.command_of(words).checks_by_light
+    causes = LIGHT_CAUSES if by_light else CAUSES
+    refused = re.search(r"^refused frame \d+ (\w+) ?(\w*)\n\Z", printed.decode("ascii", "replace"), re.M)
+    if not refused or refused[1] not in causes:
         lines = [f"{REFUSED}, and the cause was printed:"]
-        for cause, (letter, text) in CAUSES.items():
+        for cause, (letter, text) in causes.items():
             lines.append(f"{' '.join([cause, letter]).strip()}: {text.format(letter)}")
-        return "\n".join([*lines, f"where {PACK_FIRST}"])
+        return "\n".join(lines if by_light else [*lines, f"where {PACK_FIRST}"])
     cause, number = refused[1], refused[2]
-    return kind_advice(words, start) or f"{REFUSED}: {CAUSES[cause][1].format(number)}"
+    return kind_advice(words, start) or f"{REFUSED}: {causes[cause][1].format(number)}"
 
 
 def kind_advice(words, start):
@@ -304,12 +316,13 @@ def kind_advice(words, start):
 
 
 def refused_line(program, words, start):
-    """The line of a frame that is refused, by `scan`, which only reads: over the input, or over the
-    blocks of the log and the frame, whose number in the input isn't told then."""
-    again = os.fstat(0).st_size - start if words[0] == "scan" else log_end()
+    """The line of a frame that is refused, behind those of others: by `scan` and `light`, which only read, over the
+    input; or by `scan` over the blocks of the log and the frame, whose number in the input isn't told then."""
+    only_reads = words[0] in ("scan", "light")
+    again = os.fstat(0).st_size - start if only_reads else log_end()
     if again > MAX_AGAIN_BYTES:
         return b""
-    if words[0] == "scan":
+    if only_reads:
         return printed_again(program, words, start)
     at = refused_offset(start, os.lseek(0, 0, os.SEEK_CUR))
     frame = os.pread(0, LENGTH_BYTES + MAX_BLOCK_BYTES, at)
@@ -392,6 +405,8 @@ def printed_again(program, words, start):
 
 def rejected_sentence(program, words, start):
     """Which check of a proof fails, where the input can be read again."""
+    if commands.command_of(words).checks_by_light:
+        return light_sentence(program, words, start)
     printed = b"" if start is None else printed_again(program, words, start)
     line = printed.decode("ascii", "replace")
     of_item = re.match(r"rejected trace (\w+) (\d+)", line)
@@ -409,6 +424,33 @@ def rejected_sentence(program, words, start):
     if rejected[1] == "query":
         return f"{NOT_ACCEPTED}: {REJECTED['query']}{question_of(start)}"
     return f"{NOT_ACCEPTED}: {REJECTED[rejected[1]].format(rejected[2])}"
+
+
+def light_sentence(program, words, start):
+    """How many of the proofs behind a light file are not accepted, and which check of the first of them fails."""
+    is_known = start is not None and os.fstat(0).st_size - start <= MAX_AGAIN_BYTES
+    printed = printed_again(program, words, start).decode("ascii", "replace") if is_known else ""
+    lines = re.findall(r"^proof (\d+) rejected (\w+) ?(\w*)", printed, re.M)
+    if not lines:
+        return NOT_ACCEPTED
+    number, cause, kept = lines[0]
+    count = "one proof is not accepted" if len(lines) == 1 else f"{len(lines)} proofs are not accepted"
+    meaning = (REJECTED | REJECTED_BY_LIGHT).get(cause, "").format(kept)
+    if cause == "malformed" and is_in_hex(int(number), start):
+        meaning = IN_HEX
+    return f"{count}; proofs count from 0, docs/proofs.md and docs/light.md have the checks\nproof {number}: {meaning}"
+
+
+def is_in_hex(number, start):
+    """Whether the proof of a number behind the light file that begins at an offset is in hex digits."""
+    with contextlib.suppress(OSError):
+        count = int.from_bytes(os.pread(0, 4, start + 4), "big")
+        at = start + 8 + 64 * count
+        for _ in range(number):
+            at += LENGTH_BYTES + int.from_bytes(os.pread(0, LENGTH_BYTES, at), "big")
+        magic = kinds.MAGIC_OF_PROOF.hex().encode()
+        return os.pread(0, len(magic), at + LENGTH_BYTES).lower() == magic
+    return False
 
 
 def question_of(start):
@@ -443,7 +485,10 @@ def input_sentence(program, words, start):
     """What is wrong with an input."""
     from lineage import draft_faults
 
-    is_proof = commands.command_of(words).checks_proof
+    command = commands.command_of(words)
+    is_proof = command.checks_proof
+    if command.checks_by_light:
+        return (kind_advice(words, start) if start is not None else "") or NO_LIGHT
     if start is None:
         return NO_HEX if is_proof else BAD_CONTRACT if words[0] == "fmt" else draft_faults.NO_DRAFT
     printed = printed_again(program, words, start)

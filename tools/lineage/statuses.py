@@ -12,7 +12,7 @@ MEANINGS = {
     MEMORY: "out of memory",
     NOT_A_LOG: "chain.log holds something else than a log",
     DAMAGED: "chain.log was changed or cut",
-    REFUSED: "a frame of the input is no block, or not the next one",
+    REFUSED: "a frame of the input is cut or too long, no block, or not the next one",
     BEYOND: "there is no such block",
     REJECTED: "the proof is not accepted",
     BAD_INPUT: "the input is not what the command reads",

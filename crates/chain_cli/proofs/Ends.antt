@@ -22,6 +22,7 @@ use Rattle.cli_words.specs.declared.words.Command.TheVariants.{Upgrade}
 use Rattle.cli_words.specs.declared.words.Command.TheVariants.{Root, Ask, Prove, Verify, Expose}
 use Rattle.cli_words.specs.declared.words.Command.TheVariants.{Trace, ProveTrace, VerifyTrace}
 use Rattle.cli_words.specs.declared.words.Command.TheVariants.{Range, ProveRange, VerifyRange}
+use Rattle.cli_words.specs.declared.words.Command.TheVariants.{MakeLight, Light}
 use Rattle.cli_append.specs.cli_lines.Outcome.{status_of}
 use Rattle.cli_append.specs.cli_lines.declared.outcome.Outcome.{Outcome}
 use Rattle.cli_append.specs.cli_lines.declared.outcome.Ending.{Ending}
@@ -200,6 +201,8 @@ changed_by (VerifyTrace root key at) = inl refl
 changed_by (Range key from to) = inl refl
 changed_by (ProveRange key from to root_at) = inl refl
 changed_by (VerifyRange root key from to) = inl refl
+changed_by MakeLight = inl refl
+changed_by Light = inl refl
 
 pub others_keep : (command : Command) → (command ≡ Append → ⊥) → (command ≡ Upgrade → ⊥)
     → changes_log (Some command) ≡ false

@@ -10,3 +10,5 @@ pub mod Moments
 pub mod Held
 pub mod HeldTraces
 pub mod HeldRanges
+pub mod HeldLights
+pub mod Lighted

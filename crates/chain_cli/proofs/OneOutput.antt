@@ -36,6 +36,7 @@ use Rattle.chain_replay.specs.Judging.{Taken, judgement_of, added_by}
 use Rattle.chain_replay.specs.declared.refusal.Refusal.{Refusal}
 use Rattle.chain_input.specs.Folding.{Fold, taken_before, fold_after_frame, fold_step, fold_from}
 use Rattle.chain_input.specs.Folding.{fold_input}
+use Rattle.cli_output.specs.Output.{make_light_output, light_output}
 use Rattle.cli_output.specs.Output.{Output, output_of, scan_output, usage_output, long_output}
 use Rattle.cli_output.specs.Output.{pack_output, version_number, gen_output, load_output, append_output, append_to, upgrade_output}
 use Rattle.cli_output.specs.Output.{root_output, ask_output, prove_output, on_log, next_by}
@@ -62,6 +63,7 @@ use Rattle.cli_words.specs.declared.words.Command.TheVariants.{Scan, Fmt, Pack, 
 use Rattle.cli_words.specs.declared.words.Command.TheVariants.{Root, Ask, Prove, Verify, Expose}
 use Rattle.cli_words.specs.declared.words.Command.TheVariants.{Trace, ProveTrace, VerifyTrace}
 use Rattle.cli_words.specs.declared.words.Command.TheVariants.{Range, ProveRange, VerifyRange}
+use Rattle.cli_words.specs.declared.words.Command.TheVariants.{MakeLight, Light}
 
 -- ---- the fold, by two decoders that are right
 
@@ -210,6 +212,9 @@ some_output (Some (ProveRange key from to root_at)) input content =
     (asked (λ c blocks. prove_range_output c key from to root_at input blocks) input content, refl)
 some_output (Some (VerifyRange root key from to)) input content =
     some_verify_range root.0 key from to input
+some_output (Some MakeLight) input content =
+    (asked (λ c blocks. make_light_output c input blocks) input content, refl)
+some_output (Some Light) input content = (light_output input, refl)
 some_output (Some (Expose root query root_at)) input content =
     let over : Logged → Output = λ logged. (some_expose root.0 query input compiled_in root_at logged.blocks).0 in
     let stands : Standing = standing (next_by block_in compiled_in) content in
@@ -337,6 +342,10 @@ same_output read compile is_read compile_is (Some (VerifyRange root key from to)
     whole other is = only_verify_range root.0 key from to input other
     (some_verify_range root.0 key from to input).0 is
     (some_verify_range root.0 key from to input).1
+same_output read compile is_read compile_is (Some MakeLight) input content fits whole other is =
+    same_asked read compile is_read compile_is (λ c blocks. make_light_output c input blocks) input
+    content whole other is
+same_output read compile is_read compile_is (Some Light) input content fits whole other is = is
 same_output read compile is_read compile_is (Some (Expose root query root_at)) input content fits whole other is =
     let some = some_output (Some (Expose root query root_at)) input content in
     let compiled : IsOnLog (λ logged. IsExposeOutput compiled_in root.0 query root_at input logged.blocks) input (standing (next_by read compiled_in) content) other =

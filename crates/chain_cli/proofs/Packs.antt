@@ -13,10 +13,13 @@ use Rattle.cli_output.specs.Blocks.{draft_cause, draft_outcome, TellsFault}
 use Rattle.cli_output.specs.Output.{Output, output_of, long_output, pack_output}
 use Rattle.cli_output.specs.Scanning.{GivesOutput}
 
-by_length : (version : ℕ) (long : Bool) (input : List ℕ) → ltb MAX_WHOLE_INPUT_BYTES (length input) ≡ long
+by_length : (version : ℕ) (long : Bool) (input : List ℕ) → ltb MAX_WHOLE_INPUT_BYTES (length input)
+    ≡ long
     → pack_output version input ≡ cond long (long_output input)
     (output_of (draft_outcome (texts_of_draft version input)) [])
-by_length version long input is = ap (λ (b : Bool). cond b (long_output input) (output_of (draft_outcome (texts_of_draft version input)) [])) is
+by_length version long input is = ap
+    (λ (b : Bool). cond b (long_output input)
+    (output_of (draft_outcome (texts_of_draft version input)) [])) is
 
 is_long : (input : List ℕ) → MAX_WHOLE_INPUT_BYTES < length input → ltb MAX_WHOLE_INPUT_BYTES
     (length input) ≡ true
@@ -31,26 +34,44 @@ long_here : (version : ℕ) (first left : Option (List ℕ)) (outcome : Outcome)
     (λ input. GivesOutput outcome left (pack_output version input))
 long_here version None left outcome whole is = tt
 long_here version (Some input) left outcome (long, rest) is =
-    let output : pack_output version input ≡ long_output input = by_length version true input (is_long input long) in
-    (output ∙ ap (λ (o : Outcome). output_of o (drop (MAX_WHOLE_INPUT_BYTES + 1) input)) (sym is) ∙ ap (λ (o : Output). output_of outcome o.left) (sym output), rest ∙ ap (λ (o : Output). Some o.left) (sym output))
+    let output : pack_output version input ≡ long_output input = by_length version true input
+    (is_long input long) in (
+      output ∙ ap (λ (o : Outcome). output_of o (drop (MAX_WHOLE_INPUT_BYTES + 1) input)) (sym is)
+          ∙ ap (λ (o : Output). output_of outcome o.left) (sym output),
+      rest ∙ ap
+          (λ (o : Output). Some o.left) (sym output),
+    )
 
 -- an input that is too long
-pub long_packed : (version : ℕ) (first left found : Option (List ℕ)) (outcome : Outcome) → found ≡ None
+pub long_packed : (version : ℕ) (first left found : Option (List ℕ)) (outcome : Outcome) → found
+    ≡ None
     → IfSome first (λ input. IsWholeInput found input left) → outcome ≡ bad_input (codes "long")
     → IfSome first (λ input. GivesOutput outcome left (pack_output version input))
-long_packed version first left found outcome none whole is = long_here version first left outcome (subst (λ (f : Option (List ℕ)). IfSome first (λ input. IsWholeInput f input left)) none whole) is
+long_packed version first left found outcome none whole is = long_here version first left outcome
+    (subst (λ (f : Option (List ℕ)). IfSome first
+    (λ input. IsWholeInput f input left)) none whole) is
 
-draft_here : (version : ℕ) (first left : Option (List ℕ)) (bytes : List ℕ) (outcome : Outcome) → IfSome first
-    (λ input. IsWholeInput (Some bytes) input left) → outcome ≡ draft_outcome (texts_of_draft version bytes)
+draft_here : (version : ℕ) (first left : Option (List ℕ)) (bytes : List ℕ) (outcome : Outcome)
+    → IfSome first
+    (λ input. IsWholeInput (Some bytes) input left) → outcome ≡ draft_outcome
+    (texts_of_draft version bytes)
     → IfSome first (λ input. GivesOutput outcome left (pack_output version input))
 draft_here version None left bytes outcome whole is = tt
 draft_here version (Some input) left bytes outcome (same, short, rest) is =
-    let output : pack_output version input ≡ output_of (draft_outcome (texts_of_draft version input)) [] = by_length version false input (is_short input short) in
-    let outcome_is : outcome ≡ draft_outcome (texts_of_draft version input) = is ∙ ap (λ (draft : List ℕ). draft_outcome (texts_of_draft version draft)) same in
-    (output ∙ ap (λ (o : Outcome). output_of o []) (sym outcome_is) ∙ ap (λ (o : Output). output_of outcome o.left) (sym output), rest ∙ ap (λ (o : Output). Some o.left) (sym output))
+    let output : pack_output version input ≡ output_of
+    (draft_outcome (texts_of_draft version input)) [] = by_length version false input
+    (is_short input short) in
+    let outcome_is : outcome ≡ draft_outcome (texts_of_draft version input) = is ∙ ap
+    (λ (draft : List ℕ). draft_outcome (texts_of_draft version draft)) same in (
+      output ∙ ap (λ (o : Outcome). output_of o []) (sym outcome_is) ∙ ap
+          (λ (o : Output). output_of outcome o.left) (sym output),
+      rest ∙ ap (λ (o : Output). Some o.left)
+          (sym output),
+    )
 
 -- a draft that was read whole
-pub draft_packed : (version : ℕ) (first left found : Option (List ℕ)) (bytes : List ℕ) (outcome : Outcome)
+pub draft_packed : (version : ℕ) (first left found : Option (List ℕ)) (bytes : List ℕ)
+    (outcome : Outcome)
     → found ≡ Some bytes → IfSome first (λ input. IsWholeInput found input left)
     → outcome ≡ draft_outcome (texts_of_draft version bytes)
     → IfSome first (λ input. GivesOutput outcome left (pack_output version input))
@@ -64,7 +85,8 @@ pub told_fault : {E : Type 0} (result : Result Outcome E) (error fault : PackErr
     (λ outcome. outcome ≡ bad_input text)
     → IfOk result (TellsFault error)
 told_fault (Err e) error fault text is own same told = tt
-told_fault (Ok outcome) error fault text is own same told = (fault, ap pack_fault is ∙ own, told ∙ ap bad_input same)
+told_fault (Ok outcome) error fault text is own same told =
+    (fault, ap pack_fault is ∙ own, told ∙ ap bad_input same)
 
 by_fault : (fault : Option PackError) (told : PackError) (outcome : Outcome)
     (found : Result (List (List ℕ)) PackError) → fault ≡ Some told → IfSome fault
@@ -72,7 +94,8 @@ by_fault : (fault : Option PackError) (told : PackError) (outcome : Outcome)
 by_fault None told outcome found is wanted same = absurd cc
 by_fault (Some fault) told outcome found is wanted same =
     let one : fault ≡ told = cc in
-    same ∙ ap (λ (f : PackError). bad_input (draft_cause f)) (sym one) ∙ ap draft_outcome (sym wanted)
+    same ∙ ap (λ (f : PackError). bad_input (draft_cause f)) (sym one) ∙ ap draft_outcome
+    (sym wanted)
 
 -- it is the outcome of the draft whose fault the error reports
 pub fault_wanted : {E : Type 0} (result : Result Outcome E) (error : PackError)
@@ -80,4 +103,5 @@ pub fault_wanted : {E : Type 0} (result : Result Outcome E) (error : PackError)
     (λ fault. found ≡ Err fault)
     → IfOk result (TellsFault error) → IfOk result (λ outcome. outcome ≡ draft_outcome found)
 fault_wanted (Err e) error found is told = tt
-fault_wanted (Ok outcome) error found is (fault, says, told) = by_fault (pack_fault error) fault outcome found says is told
+fault_wanted (Ok outcome) error found is (fault, says, told) = by_fault
+    (pack_fault error) fault outcome found says is told

@@ -42,6 +42,7 @@ use Rattle.cli_words.specs.declared.words.Command.TheVariants.{Upgrade}
 use Rattle.cli_words.specs.declared.words.Command.TheVariants.{Root, Ask, Prove, Verify, Expose}
 use Rattle.cli_words.specs.declared.words.Command.TheVariants.{Trace, ProveTrace, VerifyTrace}
 use Rattle.cli_words.specs.declared.words.Command.TheVariants.{Range, ProveRange, VerifyRange}
+use Rattle.cli_words.specs.declared.words.Command.TheVariants.{MakeLight, Light}
 use Rattle.cli_append.specs.cli_lines.Lines.{usage_line}
 use Rattle.cli_append.specs.cli_lines.Outcome.{status_of, outcome_with}
 use Rattle.cli_append.specs.cli_lines.declared.outcome.Outcome.{Outcome}
@@ -55,6 +56,7 @@ use Rattle.cli_output.specs.Output.{upgrade_output}
 use Rattle.cli_output.specs.Output.{on_log, fold_ending}
 use Rattle.cli_output.specs.Output.{answer_outcome, root_outcome, prove_outcome, at_or_last}
 use Rattle.cli_output.specs.Output.{trace_outcome, prove_trace_outcome, range_outcome}
+use Rattle.cli_output.specs.Output.{make_light_outcome}
 use Rattle.cli_output.specs.Output.{prove_range_outcome, IsVerifyTraceOutput, LongTrace}
 use Rattle.cli_output.specs.Output.{VerifiedTrace, IsVerifyRangeOutput, LongRange, VerifiedRange}
 use Rattle.cli_output.specs.Output.{edition_number, version_number, IsFmtOutput, Long, Source}
@@ -213,6 +215,9 @@ no_change (Some (ProveRange key from to root_at)) input content output quiet is 
     asked_no_change (prove_range_outcome compiled_in key from to root_at) input content output is
 no_change (Some (VerifyRange root key from to)) input content output quiet is =
     verify_range_no_change root.0 key from to input output is
+no_change (Some MakeLight) input content output quiet is =
+    asked_no_change (make_light_outcome compiled_in) input content output is
+no_change (Some Light) input content output quiet is = ap (λ (o : Output). o.change) is
 no_change (Some (Expose root query root_at)) input content output quiet is = is_on_log_no_change
     (λ logged. IsExposeOutput compiled_in root.0 query root_at input logged.blocks)
     (λ logged. expose_no_change compiled_in root.0 query root_at input logged.blocks) input

@@ -180,6 +180,10 @@ pub fn find<I: Source, M: Disk, S: Scratch>(
         | Command::ProveTrace { .. }
         | Command::Range { .. }
         | Command::ProveRange { .. } => ask_lineage(resources, command, source, machine, scratch),
-        Command::Gen(_) | Command::Append | Command::Upgrade => unreachable!(),
+        Command::Gen(_)
+        | Command::Append
+        | Command::Upgrade
+        | Command::MakeLight
+        | Command::Light => unreachable!(),
     }
 }

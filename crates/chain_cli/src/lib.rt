@@ -4,6 +4,7 @@
 mod answering;
 mod fmt;
 mod generating;
+mod lighting;
 mod loading;
 mod over_log;
 mod packing;

@@ -18,15 +18,17 @@ ghost use Rattle.crash_promises.specs.Promises.{MayLeaveAny};
 ghost use Rattle.cli_output.specs.{
   Output.{FormatsAgain, IsWanted, IsOneOutput, log_next_by, next_by},
   Running.{IsRun, IsSilent, MayEnd, found_no_log},
-  Showing.{VerifiedAnswersHold, VerifiedTracesHold, VerifiedRangesHold, WrongAnswersAreTold},
+  Showing.{VerifiedAnswersHold, VerifiedTracesHold, VerifiedRangesHold, WrongAnswersAreTold, LightAnswersHold, MadeLightFilesAreWhole},
   Telling.{status_of_result},
   Uses.{reads_input, uses_disk, uses_scratch, changes_log, tells_as_it_goes},
 };
 
 use crate::answering::find;
 use crate::generating::generate;
+use crate::lighting::make_light;
 use crate::over_log::change_log;
 use cli_append::{Ending, Status};
+use cli_lights::light;
 use cli_output::{RunStop, status_of_stop, tell, tell_usage};
 use cli_words::{Command, command_of};
 use disk_model::Disk;
@@ -63,6 +65,8 @@ fn run_command<I: Source, M: Disk + Wire, S: Scratch>(
 {
     match command {
         Command::Gen(generation) => generate(resources.alloc, machine, generation),
+        Command::MakeLight => make_light(resources, machine, scratch),
+        Command::Light => light(resources.alloc, source, machine),
         Command::Append | Command::Upgrade => {
             change_log(resources, command, source, machine, scratch)
         }
@@ -114,7 +118,7 @@ fn run_words<I: Source, M: Disk + Wire, S: Scratch>(
 
 /// Everything that the program does: it reads the words, the input and the disk, keeps bodies of
 /// versions on the scratch device, prints the lines, and appends to the log or marks it.
-#[tactic(auto, using(crate::proofs::OneOutput::one_output, crate::proofs::Formatted::formats_again, crate::proofs::Held::verified_holds, crate::proofs::HeldTraces::verified_traces_hold, crate::proofs::HeldRanges::verified_ranges_hold, cli_output::proofs::WrongTold::wrong_answers_are_told, block_codec::proofs::WholeBlocks::decided, crate::proofs::OneOutput::compiled_by))]
+#[tactic(auto, using(crate::proofs::OneOutput::one_output, crate::proofs::Formatted::formats_again, crate::proofs::Held::verified_holds, crate::proofs::HeldTraces::verified_traces_hold, crate::proofs::HeldRanges::verified_ranges_hold, crate::proofs::HeldLights::light_answers_hold, cli_output::proofs::WrongTold::wrong_answers_are_told, block_codec::proofs::WholeBlocks::decided, crate::proofs::OneOutput::compiled_by))]
 pub fn run<I: Source, M: Disk + Wire, S: Scratch>(
     resources: Resources,
     words: &[String],
@@ -152,6 +156,12 @@ pub fn run<I: Source, M: Disk + Wire, S: Scratch>(
     // So are the versions between two blocks that `range verify` prints.
     ensures ranged { (root key : List ℕ) (from to : ℕ) (input : List ℕ)
         → VerifiedRangesHold root key from to input }
+    // The answer that `light` prints for a proof is that of replaying any chain of which the light
+    // file is, up to the block of the proof's root; or a text of the proof and one of that chain's
+    // ledger differ and have one digest.
+    ensures checked { (input : List ℕ) → LightAnswersHold input }
+    // The bytes that `light make` prints over the blocks of a log are their light file.
+    ensures light_made { MadeLightFilesAreWhole }
     // Whatever the source has left, if the disk is known, and which bytes the scratch device holds:
     // a crash at any moment leaves what the disk held, or the chain of that with further blocks, or
     // marked.

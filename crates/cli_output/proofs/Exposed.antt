@@ -10,10 +10,10 @@ use Rattle.cli_append.specs.chain_exec.Compiled.{Compiler}
 use Rattle.proof_codec.specs.declared.proof.Proof.{Proof}
 use Rattle.proof_commands.specs.proof_views.Viewing.{Spells, proof_in}
 use Rattle.proof_commands.proofs.proof_views.Viewed.{is_read}
-use Rattle.replay_soundness.specs.proof_checks.Checks.{verdict}
-use Rattle.replay_soundness.specs.proof_checks.ProofTexts.{proof_texts}
-use Rattle.replay_soundness.specs.proof_checks.declared.reject.Reject.{Reject}
-use Rattle.replay_soundness.specs.proof_checks.declared.reject.Reject.TheVariants.{Malformed}
+use Rattle.light_soundness.specs.replay_soundness.proof_checks.Checks.{verdict}
+use Rattle.light_soundness.specs.replay_soundness.proof_checks.ProofTexts.{proof_texts}
+use Rattle.light_soundness.specs.replay_soundness.proof_checks.declared.reject.Reject.{Reject}
+use Rattle.light_soundness.specs.replay_soundness.proof_checks.declared.reject.Reject.TheVariants.{Malformed}
 use Rattle.text_clashes.specs.FirstClash.{IsFirstClash}
 use Rattle.text_clashes.proofs.OneFirst.{some_first_clash, one_first_clash}
 use Rattle.proof_commands.specs.Verifying.{hex_text, of_verdict, verification, IsVerification}
@@ -24,7 +24,7 @@ use Rattle.proof_commands.specs.declared.verification.Verification.TheVariants.{
 use Rattle.proof_commands.proofs.Verified.{is_verification, one_answer}
 use Rattle.crash_promises.specs.Promises.{NoChange}
 use Rattle.cli_append.specs.cli_lines.declared.whole.TheConstants.{MAX_WHOLE_INPUT_BYTES}
-use Rattle.replay_soundness.specs.Soundness.{replayed_texts}
+use Rattle.light_soundness.specs.replay_soundness.Soundness.{replayed_texts}
 use Rattle.cli_output.specs.Output.{Output, output_of, beyond_head, long_output, Reach}
 use Rattle.cli_output.specs.Output.{IsExposeOutput, OutOfReach, LongExposed, NotAccepted, Exposed}
 use Rattle.cli_output.specs.Proofs.{verification_outcome, is_accepted, IsAcceptedHex, clash_outcome}

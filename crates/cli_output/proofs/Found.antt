@@ -7,7 +7,7 @@ use Rattle.disk_model.specs.Disk.{content_of}
 use Rattle.block_codec.specs.Reading.{block_in}
 use Rattle.block_log.specs.Standing.{standing}
 use Rattle.cli_append.specs.chain_exec.Compiled.{compiled_in}
-use Rattle.replay_soundness.specs.chain_replay.Chain.{ChainState}
+use Rattle.light_soundness.specs.replay_soundness.chain_replay.Chain.{ChainState}
 use Rattle.cli_append.specs.recovery.Node.{IsChainStored, IsNoStart, next_in_chain}
 use Rattle.cli_append.specs.recovery.declared.errors.StartError.{StartError}
 use Rattle.cli_append.specs.cli_lines.declared.outcome.Outcome.{Outcome}
@@ -16,11 +16,13 @@ use Rattle.cli_words.specs.declared.words.Command.TheVariants.{Scan, Fmt, Pack, 
 use Rattle.cli_words.specs.declared.words.Command.TheVariants.{Root, Ask, Prove, Verify, Expose}
 use Rattle.cli_words.specs.declared.words.Command.TheVariants.{Trace, ProveTrace, VerifyTrace}
 use Rattle.cli_words.specs.declared.words.Command.TheVariants.{Range, ProveRange, VerifyRange}
+use Rattle.cli_words.specs.declared.words.Command.TheVariants.{MakeLight, Light}
 use Rattle.cli_output.specs.Output.{Output, output_of, root_output, ask_output, prove_output}
 use Rattle.cli_output.specs.Output.{trace_output, prove_trace_output}
-use Rattle.cli_output.specs.Output.{range_output, prove_range_output}
+use Rattle.cli_output.specs.Output.{range_output, prove_range_output, make_light_output}
 use Rattle.cli_output.specs.Output.{IsOnLog, Wants}
-use Rattle.cli_output.specs.Uses.{ChainUse, NoChain, InputRows, LogRows, LogLineage, MadeLineage}
+use Rattle.cli_output.specs.Uses.{ChainUse, NoChain, InputRows, LogRows, LogLineage, LogRoots}
+use Rattle.cli_output.specs.Uses.{MadeLineage}
 use Rattle.cli_output.specs.Uses.{LogAppended, LogMarked, use_of, is_log_lineage, is_log_asked}
 use Rattle.cli_output.specs.Uses.{is_log_changed, keeps_bodies, reads_input, uses_disk}
 use Rattle.cli_output.specs.Uses.{uses_scratch, asks_log, asks_lineage}
@@ -52,6 +54,7 @@ lineage_asks NoChain is = absurd (cc is)
 lineage_asks InputRows is = absurd (cc is)
 lineage_asks LogRows is = absurd (cc is)
 lineage_asks LogLineage is = refl
+lineage_asks LogRoots is = absurd (cc is)
 lineage_asks MadeLineage is = absurd (cc is)
 lineage_asks LogAppended is = absurd (cc is)
 lineage_asks LogMarked is = absurd (cc is)
@@ -61,6 +64,7 @@ lineage_keeps NoChain is = absurd (cc is)
 lineage_keeps InputRows is = absurd (cc is)
 lineage_keeps LogRows is = absurd (cc is)
 lineage_keeps LogLineage is = refl
+lineage_keeps LogRoots is = refl
 lineage_keeps MadeLineage is = absurd (cc is)
 lineage_keeps LogAppended is = absurd (cc is)
 lineage_keeps LogMarked is = absurd (cc is)
@@ -71,6 +75,7 @@ asked_uses NoChain is = absurd (cc is)
 asked_uses InputRows is = absurd (cc is)
 asked_uses LogRows is = refl
 asked_uses LogLineage is = refl
+asked_uses LogRoots is = refl
 asked_uses MadeLineage is = absurd (cc is)
 asked_uses LogAppended is = absurd (cc is)
 asked_uses LogMarked is = absurd (cc is)
@@ -151,6 +156,9 @@ log_wanted (Range key from to) asks input content output is = on_log_is
 log_wanted (ProveRange key from to root_at) asks input content output is = on_log_is
     (λ logged. prove_range_output compiled_in key from to root_at input logged.blocks) input
     (standing next_in_chain content) output is
+log_wanted MakeLight asks input content output is = on_log_is
+    (λ logged. make_light_output compiled_in input logged.blocks) input
+    (standing next_in_chain content) output is
 log_wanted (Scan query) asks input content output is = absurd (cc asks)
 log_wanted (Fmt edition) asks input content output is = absurd (cc asks)
 log_wanted (Pack version) asks input content output is = absurd (cc asks)
@@ -161,6 +169,7 @@ log_wanted Upgrade asks input content output is = absurd (cc asks)
 log_wanted (Verify root query) asks input content output is = absurd (cc asks)
 log_wanted (VerifyTrace root key at) asks input content output is = absurd (cc asks)
 log_wanted (VerifyRange root key from to) asks input content output is = absurd (cc asks)
+log_wanted Light asks input content output is = absurd (cc asks)
 
 -- their chain was started
 pub asked_found : (state : Option DiskState) (command : Command) (kept : ChainState)

@@ -175,6 +175,11 @@ pub chain_of_node : (state : Option DiskState) (node : NodeState) (stands : Stan
     → IsNodeStarted state stands (Ok node) → IsChainStored stands (Ok node.chain)
 chain_of_node state node stands started = (started.0, started.1, started.2.0.kept)
 
+-- what holds in any case holds at the end
+if_ended : {P : Type 0} (result : Result Ending RunStop) → P → IfOk result (λ ending. P)
+if_ended (Ok ending) holds = holds
+if_ended (Err stop) holds = tt
+
 module _ {D : Type 0} (now : D → ℕ) (disk : D → ℕ → Option DiskState)
     (told : D → Option (List Tell)) where
   -- ---- commands that leave the disk as it is
@@ -192,14 +197,15 @@ module _ {D : Type 0} (now : D → ℕ) (disk : D → ℕ → Option DiskState)
   quiet_images old new content what rests stays leads = weaker now disk old new (λ c. c ≡ content)
       (MayLeave next_in_chain content what) (content_stays old new content rests stays) leads
 
-  pub said_met : (old new : D) (content : List ℕ) (outcome : Outcome)
+  -- where what is left of the input is known at the end
+  pub ended_met : (old new : D) (content : List ℕ) (outcome : Outcome)
       (result : Result Ending RunStop) (left_old left_new : Option (List ℕ)) (rest : List ℕ)
       → Rests (disk old (now old)) (λ c. c ≡ content) → Stays now disk old new
       → Says next_in_chain now disk told old new outcome result
-      → left_new ≡ leaves left_old rest
+      → IfOk result (λ ending. left_new ≡ leaves left_old rest)
       → Meets next_in_chain now disk told old new (status_of_result result) left_old left_new
       content (output_of outcome rest)
-  said_met old new content outcome (Ok ending) left_old left_new rest rests stays says left =
+  ended_met old new content outcome (Ok ending) left_old left_new rest rests stays says left =
       let ends : came_to_end (status_of ending) ≡ true = ending_ends ending in
       record {
         lines = subst (λ (all : Bool). Telling next_in_chain now disk told old new
@@ -213,7 +219,7 @@ module _ {D : Type 0} (now : D → ℕ) (disk : D → ℕ → Option DiskState)
               (λ (o : Option DiskState). Rests o (λ c. c ≡ content)) (sym stays.last) rests;
         };
       }
-  said_met old new content outcome (Err stop) left_old left_new rest rests stays says left =
+  ended_met old new content outcome (Err stop) left_old left_new rest rests stays says left =
       let halts = stop_stops stop in
       record {
         lines = subst (λ (all : Bool). Telling next_in_chain now disk told old new
@@ -222,6 +228,18 @@ module _ {D : Type 0} (now : D → ℕ) (disk : D → ℕ → Option DiskState)
         unwritten = λ e none. stays;
         ended = λ e. absurd (cc (halts, e));
       }
+
+  -- where it is known in any case
+  pub said_met : (old new : D) (content : List ℕ) (outcome : Outcome)
+      (result : Result Ending RunStop) (left_old left_new : Option (List ℕ)) (rest : List ℕ)
+      → Rests (disk old (now old)) (λ c. c ≡ content) → Stays now disk old new
+      → Says next_in_chain now disk told old new outcome result
+      → left_new ≡ leaves left_old rest
+      → Meets next_in_chain now disk told old new (status_of_result result) left_old left_new
+      content (output_of outcome rest)
+  said_met old new content outcome result left_old left_new rest rests stays says left =
+      ended_met old new content outcome result left_old left_new rest rests stays says
+      (if_ended result left)
 
   -- nothing was printed
   pub silent_met : (old new : D) (content : List ℕ) (output : Output) (stop : RunStop)

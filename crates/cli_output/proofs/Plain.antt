@@ -33,6 +33,19 @@ module _ {D : Type 0} (now : D → ℕ) (disk : D → ℕ → Option DiskState) 
       subst (λ (l : List Line). Telling next now disk told old new l all) (sym (map_push plain pieces piece))
       (join next now disk told old mid new (λ c. Unit {0}) (map plain pieces) (plain piece ∷ []) all so_far (still next now disk told mid new (λ c. Unit {0}) (λ s c at image. tt) stays) (λ c at. plain_kept next pieces c) one)
 
+  -- more pieces
+  pub plain_join : (old mid new : D) (pieces others : List (List ℕ)) (all : Bool)
+      → Telling next now disk told old mid (map plain pieces) true → Stays now disk mid new
+      → Telling next now disk told mid new (map plain others) all
+      → Telling next now disk told old new (map plain (pieces ++ others)) all
+  plain_join old mid new pieces others all so_far stays more =
+      subst (λ (l : List Line). Telling next now disk told old new l all)
+      (sym (map-append plain pieces others))
+      (join next now disk told old mid new (λ c. Unit {0}) (map plain pieces)
+      (map plain others) all so_far
+      (still next now disk told mid new (λ c. Unit {0}) (λ s c at image. tt) stays)
+      (λ c at. plain_kept next pieces c) more)
+
   -- some pieces, and others of which none is printed
   pub plain_cut : (old new : D) (pieces rest : List (List ℕ)) (all : Bool) → Telling next now disk told old new (map plain pieces) all → Telling next now disk told old new (map plain (pieces ++ rest)) false
   plain_cut old new pieces rest all so_far =

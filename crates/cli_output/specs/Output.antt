@@ -1,7 +1,7 @@
 -- What each command must print for an input and the content of the disk, how it ends, what it
 -- leaves of the input, and what it does to the log. There is one such output.
 use Rattle.std.specs.Prelude.{◌≡◌, ℕ, ◌+◌, ◌-◌, ◌<◌, ◌≤◌, ◌==◌, ◌&&◌, nat_le, nat_lt, false}
-use Rattle.std.specs.Prelude.{if◌then◌else◌, List, [], ◌∷◌, length, drop, map, Option}
+use Rattle.std.specs.Prelude.{if◌then◌else◌, List, [], ◌∷◌, ◌++◌, length, drop, map, Option}
 use Rattle.std.specs.Prelude.{Some, None, Ok, Err, codes}
 use Rattle.std.specs.List.{concat}
 use Rattle.lc_base.specs.History.{scan}
@@ -23,20 +23,25 @@ use Rattle.contract_check.specs.declared.fault.Fault.{Fault}
 use Rattle.contract_print.specs.Canonical.{contract_text}
 use Rattle.cli_append.specs.chain_exec.Compiled.{Compiler, IsCompiler}
 use Rattle.cli_append.specs.chain_exec.Replay.{replay}
-use Rattle.replay_soundness.specs.chain_replay.Chain.{placement_by_mark, placement_in}
-use Rattle.replay_soundness.specs.chain_replay.Judging.{added_by_all}
-use Rattle.replay_soundness.specs.rooted_chain.Roots.{root_in}
-use Rattle.replay_soundness.specs.chain_input.Folding.{Fold, FoldEnd, Whole, Refused, fold_from}
-use Rattle.replay_soundness.specs.chain_input.Folding.{fold_input}
+use Rattle.light_soundness.specs.replay_soundness.chain_replay.Chain.{placement_by_mark}
+use Rattle.light_soundness.specs.replay_soundness.chain_replay.Chain.{placement_in}
+use Rattle.light_soundness.specs.replay_soundness.chain_replay.Judging.{added_by_all}
+use Rattle.light_soundness.specs.replay_soundness.rooted_chain.Roots.{root_in}
+use Rattle.light_soundness.specs.replay_soundness.chain_input.Folding.{Fold, FoldEnd, Whole}
+use Rattle.light_soundness.specs.replay_soundness.chain_input.Folding.{Refused, fold_from}
+use Rattle.light_soundness.specs.replay_soundness.chain_input.Folding.{fold_input}
+use Rattle.light_soundness.specs.light_client.light_file.Format.{light_in}
+use Rattle.light_soundness.specs.light_client.light_file.Reading.{left_of_none}
+use Rattle.light_soundness.specs.light_client.light_file.declared.block_root.BlockRoot.{BlockRoot}
 use Rattle.crash_promises.specs.Promises.{Line, plain, Change, NoChange, Appends}
 use Rattle.cli_append.specs.Appending.{fold_lines, marked_line, upgrade_text, upgrade_change}
 use Rattle.chain_pack.specs.Draft.{texts_of_draft}
 use Rattle.chain_gen.specs.Generator.{blocks_of_seed}
 use Rattle.chain_load.specs.Loads.{load_of}
 use Rattle.proof_codec.specs.declared.proof.Proof.{Proof}
-use Rattle.replay_soundness.specs.proof_checks.Making.{made_proof}
-use Rattle.replay_soundness.specs.proof_checks.ProofTexts.{proof_texts}
-use Rattle.replay_soundness.specs.Soundness.{replayed_texts}
+use Rattle.light_soundness.specs.replay_soundness.proof_checks.Making.{made_proof}
+use Rattle.light_soundness.specs.replay_soundness.proof_checks.ProofTexts.{proof_texts}
+use Rattle.light_soundness.specs.replay_soundness.Soundness.{replayed_texts}
 use Rattle.text_clashes.specs.FirstClash.{IsFirstClash}
 use Rattle.proof_commands.specs.Verifying.{IsVerification}
 use Rattle.proof_commands.specs.declared.verification.Verification.{Verification}
@@ -60,6 +65,7 @@ use Rattle.cli_words.specs.declared.words.Command.TheVariants.{Scan, Fmt, Pack, 
 use Rattle.cli_words.specs.declared.words.Command.TheVariants.{Root, Ask, Prove, Verify, Expose}
 use Rattle.cli_words.specs.declared.words.Command.TheVariants.{Trace, ProveTrace, VerifyTrace}
 use Rattle.cli_words.specs.declared.words.Command.TheVariants.{Range, ProveRange, VerifyRange}
+use Rattle.cli_words.specs.declared.words.Command.TheVariants.{MakeLight, Light}
 use Rattle.cli_append.specs.cli_lines.Lines.{usage_line, beyond_line, root_line}
 use Rattle.cli_output.specs.LoadLine.{load_line}
 use Rattle.cli_append.specs.cli_lines.Lines.{refused_line, answer_lines, trace_lines, syntax_cause}
@@ -78,6 +84,9 @@ use Rattle.cli_output.specs.Proofs.{proof_line, verification_outcome, is_accepte
 use Rattle.cli_output.specs.Proofs.{clash_outcome}
 use Rattle.cli_output.specs.Traces.{trace_proof_line, trace_verification_outcome}
 use Rattle.cli_output.specs.Ranges.{range_proof_line, range_verification_outcome}
+use Rattle.cli_output.specs.Frames.{Framed, framed}
+use Rattle.cli_output.specs.Lights.{light_pieces, all_proof_lines, refused_lines, rejects_one}
+use Rattle.cli_output.specs.Lights.{light_ending}
 
 -- ---- outputs
 
@@ -412,6 +421,39 @@ pub data IsExposeOutput (compile : Compiler) (root : List ℕ) (query : Query) (
       (clash : Option (ℕ × ℕ)) → IsFirstClash (proof_texts proof) (replayed_texts compile blocks root_at) clash →
       IsExposeOutput compile root query root_at input blocks (output_of (clash_outcome (proof_texts proof) (replayed_texts compile blocks root_at) clash) [])
 
+-- ---- light files
+
+-- The outcome of `light make`: the light file of a chain of these blocks, piece by piece.
+abbrev pub make_light_outcome : Compiler → List Block → Outcome
+make_light_outcome compile blocks =
+    outcome_with (light_pieces (replay compile blocks).rows (map digest_of blocks)) endings.Done
+
+-- The output of `light make` over the blocks of the log. It leaves the input.
+abbrev pub make_light_output : Compiler → List ℕ → List Block → Output
+make_light_output compile input blocks = output_of (make_light_outcome compile blocks) input
+
+-- The outcome of `light` for the frames that follow a light file, each of which is a proof: the
+-- lines of each, and one for a frame that is refused for its form.
+abbrev pub checked_outcome : List BlockRoot → Framed → Outcome
+checked_outcome file framed = outcome_with
+    (all_proof_lines file 0 framed.frames ++ refused_lines framed.end)
+    (light_ending (rejects_one file framed.frames) framed.end)
+
+-- The outcome of `light`, by the light file at the start of an input and what follows that, if
+-- there is one.
+abbrev pub light_outcome : Option (List BlockRoot × List ℕ) → Outcome
+light_outcome None = bad_input (codes "light")
+light_outcome (Some read) = checked_outcome read.0 (framed read.1)
+
+-- What it leaves of the input.
+abbrev pub light_left : List ℕ → Option (List BlockRoot × List ℕ) → List ℕ
+light_left input None = left_of_none input
+light_left input (Some read) = (framed read.1).left
+
+-- The output of `light` for an input.
+abbrev pub light_output : List ℕ → Output
+light_output input = output_of (light_outcome (light_in input)) (light_left input (light_in input))
+
 -- ---- the output of a command
 
 -- The output that a command, or words that are none, must have for an input and the content of the
@@ -452,6 +494,10 @@ Wants read compile (Some (ProveRange key from to root_at)) input content output 
     input (standing (next_by read compile) content)
 Wants read compile (Some (VerifyRange root key from to)) input content output =
     IsVerifyRangeOutput root.0 key from to input output
+Wants read compile (Some MakeLight) input content output =
+    output ≡ on_log (λ logged. make_light_output compile input logged.blocks) input
+    (standing (next_by read compile) content)
+Wants read compile (Some Light) input content output = output ≡ light_output input
 
 -- This is the output of the command, by a right decoder and a right compiler.
 abbrev pub IsWanted : Option Command → List ℕ → List ℕ → Output → Type 0

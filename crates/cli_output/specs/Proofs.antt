@@ -7,7 +7,7 @@ use Rattle.lc_base.specs.declared.answer.Query.{Query}
 use Rattle.proof_codec.specs.declared.proof.Proof.{Proof}
 use Rattle.proof_codec.specs.Spelling.{proof_fields}
 use Rattle.proof_commands.specs.proof_views.Viewing.{Spells}
-use Rattle.replay_soundness.specs.proof_checks.Checks.{verdict}
+use Rattle.light_soundness.specs.replay_soundness.proof_checks.Checks.{verdict}
 use Rattle.proof_commands.specs.Lines.{rejected_line}
 use Rattle.proof_commands.specs.Verifying.{hex_text}
 use Rattle.proof_commands.specs.declared.verification.HexFault.{HexFault}

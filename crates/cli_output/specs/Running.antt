@@ -12,7 +12,7 @@ use Rattle.cli_words.specs.declared.words.Command.{Command}
 use Rattle.cli_append.specs.cli_lines.declared.status.Status.{Status}
 use Rattle.cli_append.specs.cli_lines.declared.status.Status.TheVariants as statuses
 use Rattle.cli_output.specs.Output.{Output, Wants, next_by}
-use Rattle.cli_output.specs.Uses.{reads_input, takes_frames, reads_whole, checks_proof}
+use Rattle.cli_output.specs.Uses.{reads_input, takes_frames, reads_form, checks_proof}
 use Rattle.cli_output.specs.Uses.{asks_for_block, uses_disk, uses_scratch}
 
 -- Whether a run with this status came to its end: nothing outside failed, and memory did not run
@@ -39,7 +39,7 @@ MayEnd statuses.Damaged command = uses_disk command ≡ true
 MayEnd statuses.Refused command = takes_frames command ≡ true
 MayEnd statuses.Beyond command = asks_for_block command ≡ true
 MayEnd statuses.Rejected command = checks_proof command ≡ true
-MayEnd statuses.BadInput command = reads_whole command ≡ true
+MayEnd statuses.BadInput command = reads_form command ≡ true
 MayEnd statuses.ScratchFault command = uses_scratch command ≡ true
 
 -- Whether a run with this status found no log that it could read: the disk holds something else, or

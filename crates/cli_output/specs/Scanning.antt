@@ -6,11 +6,11 @@ use Rattle.disk_model.specs.Disk.{content_of}
 use Rattle.block_codec.specs.Reading.{block_in}
 use Rattle.block_codec.specs.declared.block.Block.{Block}
 use Rattle.cli_append.specs.chain_exec.Compiled.{compiled_in}
-use Rattle.replay_soundness.specs.chain_replay.Chain.{ChainState, StandsFor}
+use Rattle.light_soundness.specs.replay_soundness.chain_replay.Chain.{ChainState, StandsFor}
 use Rattle.cli_words.specs.declared.words.Command.{Command}
 use Rattle.cli_words.specs.declared.words.Command.TheVariants.{Root, Ask, Prove, Expose}
 use Rattle.cli_words.specs.declared.words.Command.TheVariants.{Trace, ProveTrace}
-use Rattle.cli_words.specs.declared.words.Command.TheVariants.{Range, ProveRange}
+use Rattle.cli_words.specs.declared.words.Command.TheVariants.{Range, ProveRange, MakeLight}
 use Rattle.cli_append.specs.cli_lines.declared.outcome.Outcome.{Outcome}
 use Rattle.cli_append.specs.cli_lines.declared.outcome.Ending.{Ending}
 use Rattle.cli_append.specs.cli_lines.declared.outcome.Ending.TheVariants as endings
@@ -18,6 +18,7 @@ use Rattle.cli_output.specs.Output.{Output, output_of, IsFmtOutput, IsVerifyOutp
 use Rattle.cli_output.specs.Output.{root_output, ask_output, prove_output, Wants}
 use Rattle.cli_output.specs.Output.{trace_output, prove_trace_output, IsVerifyTraceOutput}
 use Rattle.cli_output.specs.Output.{range_output, prove_range_output, IsVerifyRangeOutput}
+use Rattle.cli_output.specs.Output.{make_light_output}
 use Rattle.cli_output.specs.Running.{leaves, HeldIsGiven, IsGiven}
 use Rattle.cli_output.specs.Uses.{reads_input, uses_disk}
 use Rattle.cli_output.specs.declared.stop.OutcomeStop.{OutcomeStop}
@@ -90,6 +91,7 @@ WantsOver (Range key from to) input blocks output =
     output ≡ range_output compiled_in key from to input blocks
 WantsOver (ProveRange key from to root_at) input blocks output =
     output ≡ prove_range_output compiled_in key from to root_at input blocks
+WantsOver MakeLight input blocks output = output ≡ make_light_output compiled_in input blocks
 WantsOver other input blocks output = ⊥
 
 -- The same as `IsFoundFor` for such a command, over all blocks that this stands for.

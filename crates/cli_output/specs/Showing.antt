@@ -1,6 +1,8 @@
--- What the answer that `verify` prints proves, what `expose` prints for a wrong one, and what the
--- ancestors that `trace verify` prints and the versions that `range verify` prints prove.
-use Rattle.std.specs.Prelude.{◌≡◌, ◌≢◌, ◌⊎◌, ◌≤◌, ℕ, List, [], ◌∷◌, map, Ok}
+-- What the answer that `verify` prints proves, what `expose` prints for a wrong one, what the
+-- ancestors that `trace verify` prints and the versions that `range verify` prints prove, and what
+-- the answers that `light` prints prove.
+use Rattle.std.specs.Prelude.{◌≡◌, ◌≢◌, ◌⊎◌, ◌≤◌, ℕ, ◌+◌, List, [], ◌∷◌, ◌++◌, map, Some}
+use Rattle.std.specs.Prelude.{Result, Ok, IfOk}
 use Rattle.hex.specs.Hex.{decode_of}
 use Rattle.lc_base.specs.declared.answer.Answer.{Answer}
 use Rattle.lc_base.specs.declared.answer.Query.{Query}
@@ -8,23 +10,37 @@ use Rattle.block_codec.specs.declared.block.Block.{Block}
 use Rattle.cli_append.specs.chain_exec.Compiled.{Compiler}
 use Rattle.proof_codec.specs.declared.proof.Proof.{Proof}
 use Rattle.proof_commands.specs.proof_views.Viewing.{Spells}
-use Rattle.replay_soundness.specs.proof_checks.ProofTexts.{proof_texts}
+use Rattle.light_soundness.specs.replay_soundness.proof_checks.ProofTexts.{proof_texts}
 use Rattle.text_clashes.specs.FirstClash.{text_at, ClashAt}
 use Rattle.proof_commands.specs.Verifying.{hex_text, IsVerification}
 use Rattle.proof_commands.specs.declared.verification.Verification.TheVariants.{Accepted}
-use Rattle.replay_soundness.specs.Soundness.{HasRoot, replayed_answer, replayed_texts}
-use Rattle.replay_soundness.specs.Soundness.{ClashesWithReplay}
-use Rattle.replay_soundness.specs.Traces.{replayed_trace, TraceClashesWithReplay}
+use Rattle.light_soundness.specs.replay_soundness.Soundness.{HasRoot, replayed_answer}
+use Rattle.light_soundness.specs.replay_soundness.Soundness.{replayed_texts}
+use Rattle.light_soundness.specs.replay_soundness.Soundness.{ClashesWithReplay}
+use Rattle.light_soundness.specs.replay_soundness.Traces.{replayed_trace, TraceClashesWithReplay}
 use Rattle.trace_checks.specs.declared.trace_proof.TraceProof.{TraceProof}
 use Rattle.trace_checks.specs.Spelling.{SpellsTrace}
-use Rattle.replay_soundness.specs.Ranges.{replayed_range, RangeClashesWithReplay}
+use Rattle.light_soundness.specs.replay_soundness.Ranges.{replayed_range, RangeClashesWithReplay}
 use Rattle.range_commands.specs.range_checks.declared.range_proof.RangeProof.{RangeProof}
 use Rattle.range_commands.specs.range_checks.Spelling.{SpellsRange}
+use Rattle.byte_fields.specs.Spelling.{IsBytes}
+use Rattle.block_codec.specs.Placement.{digest_of}
+use Rattle.cli_append.specs.chain_exec.Replay.{replay}
+use Rattle.light_soundness.specs.Soundness.{AnswersByFile}
+use Rattle.light_soundness.specs.light_client.Checking.{LightAnswer, IsLightVerdict}
+use Rattle.light_soundness.specs.light_client.declared.reject.LightReject.{LightReject}
+use Rattle.light_soundness.specs.light_client.light_file.Format.{light_bytes, light_in}
+use Rattle.light_soundness.specs.light_client.light_file.declared.block_root.BlockRoot.{BlockRoot}
+use Rattle.light_maker.specs.Making.{block_roots_of}
 use Rattle.crash_promises.specs.Promises.{Line, plain}
+use Rattle.cli_append.specs.cli_lines.chain_input.Folding.{FoldEnd}
 use Rattle.cli_append.specs.cli_lines.Lines.{answer_lines, trace_lines, range_lines}
 use Rattle.cli_append.specs.cli_lines.declared.status.Status.TheVariants as statuses
 use Rattle.cli_output.specs.Output.{Output, FitsInput, IsVerifyOutput, IsExposeOutput}
 use Rattle.cli_output.specs.Output.{IsVerifyTraceOutput, IsVerifyRangeOutput}
+use Rattle.cli_output.specs.Output.{told_bytes, make_light_output, light_output}
+use Rattle.cli_output.specs.Frames.{framed}
+use Rattle.cli_output.specs.Lights.{proof_lines, refused_lines}
 use Rattle.cli_output.specs.Proofs.{clash_line}
 
 -- The input is this proof in hex.
@@ -107,3 +123,37 @@ VerifiedRangesHold root key from to input =
     → output.status ≡ statuses.Done
     → (range : RangeProof) × IsRangeInHex input range
     × TellsReplayedRanges root key from to range output.lines
+
+-- ---- light files
+
+-- The lines of some bytes, with their number, are those of the verdict on them: if they are
+-- accepted, they spell a proof at a block that the light file has, and the answer is that of
+-- replaying any chain of which the file is, up to that block, or texts clash.
+abbrev pub IsProofTold : List BlockRoot → ℕ → List ℕ → List (List ℕ) → Type 0
+IsProofTold file index bytes lines =
+    (verdict : Result LightAnswer LightReject) × IsLightVerdict file bytes verdict
+    × IfOk verdict (AnswersByFile file bytes) × (lines ≡ proof_lines index verdict)
+
+-- The lines are those of each of these bytes in order, of which the first have the number `index`,
+-- and then that of a frame that is refused, if they end so.
+abbrev pub AreProofsTold : List BlockRoot → FoldEnd → ℕ → List (List ℕ) → List (List ℕ) → Type 0
+AreProofsTold file end index [] lines = lines ≡ refused_lines end
+AreProofsTold file end index (bytes ∷ others) lines =
+    (own : List (List ℕ)) × (more : List (List ℕ)) × (lines ≡ own ++ more)
+    × IsProofTold file index bytes own × AreProofsTold file end (index + 1) others more
+
+-- For each frame that follows a light file in an input of bytes, `light` prints the verdict on it,
+-- which is the answer of every chain of which the file is, unless texts clash.
+abbrev pub LightAnswersHold : List ℕ → Type 0
+LightAnswersHold input =
+    (file : List BlockRoot) (rest : List ℕ) → IsBytes input → light_in input ≡ Some (file, rest)
+    → (lines : List (List ℕ)) × ((light_output input).lines ≡ map plain lines)
+    × AreProofsTold file (framed rest).end 0 (framed rest).frames lines
+
+-- What `light make` prints over the blocks of the log is their light file: of each its digest, and
+-- the root at it.
+abbrev pub MadeLightFilesAreWhole : Type 0
+MadeLightFilesAreWhole =
+    (compile : Compiler) (blocks : List Block) (input : List ℕ)
+    → told_bytes (make_light_output compile input blocks)
+    ≡ light_bytes (block_roots_of (replay compile blocks).rows (map digest_of blocks))

@@ -6,23 +6,27 @@ use Rattle.cli_words.specs.declared.words.Command.TheVariants.{Scan, Fmt, Pack, 
 use Rattle.cli_words.specs.declared.words.Command.TheVariants.{Root, Ask, Prove, Verify, Expose}
 use Rattle.cli_words.specs.declared.words.Command.TheVariants.{Trace, ProveTrace, VerifyTrace}
 use Rattle.cli_words.specs.declared.words.Command.TheVariants.{Range, ProveRange, VerifyRange}
+use Rattle.cli_words.specs.declared.words.Command.TheVariants.{MakeLight, Light}
 
--- What is read of the input: nothing; frames of blocks; all of it, as a text; or all of it, as a
--- proof that is checked.
+-- What is read of the input: nothing; frames of blocks; all of it, as a text; all of it, as a proof
+-- that is checked; or a light file, and then frames of proofs that are checked by it.
 pub data InputUse : Type 0 where
   Unread : InputUse
   Frames : InputUse
   Text : InputUse
   ProofText : InputUse
+  ProofFrames : InputUse
 
 -- The chain that is worked over: none; the rows of the input's blocks; those of the log's blocks,
--- in memory; the lineage of the log's blocks, with bodies on the scratch device; that of blocks
--- that are made; or the chain of the log, to which blocks are appended, or which is marked.
+-- in memory; the lineage of the log's blocks, with bodies on the scratch device, which is asked, or
+-- all roots of which are printed; that of blocks that are made; or the chain of the log, to which
+-- blocks are appended, or which is marked.
 pub data ChainUse : Type 0 where
   NoChain : ChainUse
   InputRows : ChainUse
   LogRows : ChainUse
   LogLineage : ChainUse
+  LogRoots : ChainUse
   MadeLineage : ChainUse
   LogAppended : ChainUse
   LogMarked : ChainUse
@@ -63,23 +67,33 @@ use_of (Some (ProveRange key from to root_at)) = record
     { input = Unread; chain = LogLineage; print = AtEnd }
 use_of (Some (VerifyRange root key from to)) = record
     { input = ProofText; chain = NoChain; print = AtEnd }
+use_of (Some MakeLight) = record { input = Unread; chain = LogRoots; print = AsMade }
+use_of (Some Light) = record { input = ProofFrames; chain = NoChain; print = AsMade }
 
 -- ---- what follows from it
 
--- Whether the input is read frame by frame.
+-- Whether the input is read frame by frame, after a light file or from its start.
 abbrev pub is_frames : InputUse → Bool
 is_frames Frames = true
+is_frames ProofFrames = true
 is_frames other = false
 
--- Whether it is checked as a proof.
+-- Whether it is checked as a proof, or its frames are.
 abbrev pub is_proof : InputUse → Bool
 is_proof ProofText = true
+is_proof ProofFrames = true
 is_proof other = false
 
 -- Whether it is read whole.
 abbrev pub is_whole : InputUse → Bool
 is_whole Text = true
-is_whole other = is_proof other
+is_whole ProofText = true
+is_whole other = false
+
+-- Whether it has to have a form, besides that of its frames: whole, or as a light file.
+abbrev pub is_formed : InputUse → Bool
+is_formed ProofFrames = true
+is_formed other = is_whole other
 
 -- Whether the lineage of the log's blocks is asked.
 abbrev pub is_log_lineage : ChainUse → Bool
@@ -89,6 +103,7 @@ is_log_lineage other = false
 -- Whether the blocks of the log are asked.
 abbrev pub is_log_asked : ChainUse → Bool
 is_log_asked LogRows = true
+is_log_asked LogRoots = true
 is_log_asked other = is_log_lineage other
 
 -- Whether the log is changed: blocks are appended to it, or it is marked.
@@ -100,11 +115,13 @@ is_log_changed other = false
 -- Whether a block of a chain is asked for.
 abbrev pub is_asked : ChainUse → Bool
 is_asked InputRows = true
+is_asked LogRoots = false
 is_asked other = is_log_asked other
 
 -- Whether bodies are kept on the scratch device.
 abbrev pub keeps_bodies : ChainUse → Bool
 keeps_bodies MadeLineage = true
+keeps_bodies LogRoots = true
 keeps_bodies other = is_log_lineage other || is_log_changed other
 
 -- Whether each piece is printed as soon as it is made.
@@ -112,7 +129,7 @@ abbrev pub is_as_made : PrintUse → Bool
 is_as_made AtEnd = false
 is_as_made AsMade = true
 
--- Whether a command, or words that are none, takes frames of blocks.
+-- Whether a command, or words that are none, takes frames.
 abbrev pub takes_frames : Option Command → Bool
 takes_frames command = is_frames (use_of command).input
 
@@ -123,6 +140,10 @@ reads_whole command = is_whole (use_of command).input
 -- Whether it reads the input: frame by frame, or whole.
 abbrev pub reads_input : Option Command → Bool
 reads_input command = takes_frames command || reads_whole command
+
+-- Whether the input has to have a form, besides that of its frames.
+abbrev pub reads_form : Option Command → Bool
+reads_form command = is_formed (use_of command).input
 
 -- Whether it checks a proof.
 abbrev pub checks_proof : Option Command → Bool

@@ -10,9 +10,10 @@ mod telling;
 
 pub use asking::beyond;
 pub use cli_append::{
-    Ending, Node, Outcome, RunStop, answer_lines, hex_after, range_lines, read_whole, trace_lines,
+    Ending, Node, Outcome, RunStop, answer_lines, digest_text, hex_after, line, range_lines,
+    read_whole, refused_line, trace_lines,
 };
 pub use loads::load_line;
 pub use starting::start_outcome;
 pub use stop::{OutcomeStop, status_of_stop};
-pub use telling::{tell, tell_usage};
+pub use telling::{tell, tell_all, tell_usage};

@@ -20,7 +20,7 @@ use lc_io::{Failed, Wire};
 use std::alloc::Global;
 
 /// Prints each piece by a call of its own, in order.
-fn tell_all<M: Wire>(machine: &mut M, pieces: &[Bytes]) -> Result<(), Failed>
+pub fn tell_all<M: Wire>(machine: &mut M, pieces: &[Bytes]) -> Result<(), Failed>
     ensures lines { (next : NextBlock) → Telling next M.now M.disk M.told machine.old machine.new (map plain pieces.now) (is_ok result) }
     ensures disk { LeavesDisk M.now M.disk M.disk_faults machine.old machine.new }
     ensures cause { HasCause (M.wire_faults machine.old) (M.wire_faults machine.new) (IsErr result) }

@@ -7,20 +7,20 @@ use Rattle.block_codec.specs.Placement.{digest_of}
 use Rattle.block_codec.specs.declared.block.Block.{Block}
 use Rattle.chain_exec.specs.Compiled.{compiled_in}
 use Rattle.chain_exec.specs.Effect.{History}
-use Rattle.cli_output.specs.chain_replay.Chain.{ChainState, StandsFor}
+use Rattle.cli_proofs.specs.cli_output.chain_replay.Chain.{ChainState, StandsFor}
 use Rattle.merkle_dag.specs.Ledger.{Ledger}
 use Rattle.range_commands.specs.range_checks.declared.range_proof.RangeProof.{RangeProof}
 use Rattle.range_commands.specs.range_checks.Spelling.{range_fields}
 use Rattle.range_commands.specs.range_checks.Making.{made_range}
-use Rattle.cli_output.proofs.rooted_chain.Rooted.{as_many}
-use Rattle.cli_output.proofs.Reached.{root_reached}
+use Rattle.cli_proofs.proofs.cli_output.rooted_chain.Rooted.{as_many}
+use Rattle.cli_proofs.proofs.cli_output.Reached.{root_reached}
 use Rattle.cli_proofs.specs.Exposing.{ledger_kept}
-use Rattle.cli_output.specs.cli_lines.Lines.{line}
-use Rattle.cli_output.specs.cli_lines.Outcome.{outcome_with}
-use Rattle.cli_output.specs.cli_lines.declared.outcome.Outcome.{Outcome}
-use Rattle.cli_output.specs.cli_lines.declared.outcome.Ending.TheVariants as endings
-use Rattle.cli_output.specs.Output.{prove_range_outcome, made_range_in}
-use Rattle.cli_output.specs.Ranges.{range_proof_line}
+use Rattle.cli_proofs.specs.cli_output.cli_lines.Lines.{line}
+use Rattle.cli_proofs.specs.cli_output.cli_lines.Outcome.{outcome_with}
+use Rattle.cli_proofs.specs.cli_output.cli_lines.declared.outcome.Outcome.{Outcome}
+use Rattle.cli_proofs.specs.cli_output.cli_lines.declared.outcome.Ending.TheVariants as endings
+use Rattle.cli_proofs.specs.cli_output.Output.{prove_range_outcome, made_range_in}
+use Rattle.cli_proofs.specs.cli_output.Ranges.{range_proof_line}
 
 -- the proof that is made of what is kept of a chain is that of its blocks
 made_is : (kept : ChainState) (blocks : List Block) (key : List ℕ) (from to root_at : ℕ)

@@ -9,14 +9,15 @@ use Rattle.range_commands.specs.declared.verification.RangeVerification.TheVaria
 use Rattle.range_commands.specs.declared.verification.RangeVerification.TheVariants.{Rejected}
 use Rattle.range_commands.specs.declared.verification.RangeVerification.TheVariants.{BadHex}
 use Rattle.cli_words.specs.declared.words.Command.TheVariants.{VerifyRange}
-use Rattle.cli_output.specs.cli_lines.declared.whole.TheConstants.{MAX_WHOLE_INPUT_BYTES}
-use Rattle.cli_output.specs.cli_lines.declared.outcome.Outcome.{Outcome}
-use Rattle.cli_output.specs.cli_lines.Outcome.{status_of, bad_input}
-use Rattle.cli_output.specs.cli_lines.Whole.{IsWholeInput}
-use Rattle.cli_output.specs.Output.{output_of, IsVerifyRangeOutput, LongRange, VerifiedRange}
-use Rattle.cli_output.specs.Ranges.{range_verification_outcome}
-use Rattle.cli_output.specs.Running.{MayEnd}
-use Rattle.cli_output.specs.Scanning.{IsVerifyRangeOutcome}
+use Rattle.cli_proofs.specs.cli_output.cli_lines.declared.whole.TheConstants.{MAX_WHOLE_INPUT_BYTES}
+use Rattle.cli_proofs.specs.cli_output.cli_lines.declared.outcome.Outcome.{Outcome}
+use Rattle.cli_proofs.specs.cli_output.cli_lines.Outcome.{status_of, bad_input}
+use Rattle.cli_proofs.specs.cli_output.cli_lines.Whole.{IsWholeInput}
+use Rattle.cli_proofs.specs.cli_output.Output.{output_of, IsVerifyRangeOutput, LongRange}
+use Rattle.cli_proofs.specs.cli_output.Output.{VerifiedRange}
+use Rattle.cli_proofs.specs.cli_output.Ranges.{range_verification_outcome}
+use Rattle.cli_proofs.specs.cli_output.Running.{MayEnd}
+use Rattle.cli_proofs.specs.cli_output.Scanning.{IsVerifyRangeOutcome}
 
 -- an input that was read whole
 whole_here : (root : List ℕ) (key : List ℕ) (from to : ℕ) (first left : Option (List ℕ))

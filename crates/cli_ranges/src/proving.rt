@@ -5,14 +5,13 @@ ghost use Rattle.std.specs.Prelude.{◌≡◌, ◌≤◌, true, List, IfOk, IsEr
 ghost use Rattle.lc_base.specs.Faults.{HasCause};
 ghost use Rattle.block_codec.specs.declared.block.Block.{Block as Blocks};
 ghost use Rattle.chain_exec.specs.Compiled.{compiled_in};
-ghost use Rattle.cli_output.specs.chain_replay.Chain.{ChainState, StandsFor};
+ghost use Rattle.cli_proofs.specs.cli_output.chain_replay.Chain.{ChainState, StandsFor};
 ghost use Rattle.scratch_model.specs.Scratch.{is_known};
 ghost use Rattle.merkle_dag.specs.Lineage.{AgreesWith, ledger_in};
-ghost use Rattle.cli_output.specs.{Output.{prove_range_outcome}, Scanning.{EndsAsked}};
+ghost use Rattle.cli_proofs.specs.cli_output.{Output.{prove_range_outcome}, Scanning.{EndsAsked}};
 ghost use Rattle.cli_proofs.specs.Exposing.{ledger_kept};
 
-use cli_output::{Ending, Outcome, OutcomeStop, beyond};
-use cli_proofs::hex_line;
+use cli_proofs::{Ending, Outcome, OutcomeStop, beyond, hex_line};
 use lc_base::Key;
 use lineage_range::{Lineage, QueryError};
 use range_proof::prove_range as proof_of;

@@ -3,18 +3,17 @@
 
 ghost use Rattle.std.specs.Prelude.{◌≡◌, [], ◌∷◌, Some, IfOk, IfSome, IsErrOf};
 ghost use Rattle.lc_base.specs.Faults.{HasCause};
-ghost use Rattle.cli_output.specs.cli_lines.Outcome.{status_of, outcome_with};
+ghost use Rattle.cli_proofs.specs.cli_output.cli_lines.Outcome.{status_of, outcome_with};
 ghost use Rattle.cli_words.specs.declared.words.Command.TheVariants.{VerifyRange};
 ghost use Rattle.range_commands.specs.Lines.{rejected_range_line};
-ghost use Rattle.cli_output.specs.{
+ghost use Rattle.cli_proofs.specs.cli_output.{
   Ranges.{range_verification_outcome},
   Running.{MayEnd},
   Scanning.{IsVerifyRangeOutcome},
   Telling.{OnlyReads},
 };
 
-use cli_output::{Ending, Outcome, OutcomeStop, range_lines, read_whole};
-use cli_proofs::bad_hex;
+use cli_proofs::{Ending, Outcome, OutcomeStop, bad_hex, range_lines, read_whole};
 use lc_base::{Digest, Key, Memory};
 use lc_io::Source;
 use range_commands::{RangeReject, RangeVerification, rejected_range_line, verify_range_hex};

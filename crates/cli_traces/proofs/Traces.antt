@@ -5,16 +5,16 @@ use Rattle.row_ancestors.specs.declared.trace.Trace.{Trace}
 use Rattle.row_ancestors.specs.Ancestors.{trace_at}
 use Rattle.chain_exec.specs.Compiled.{compiled_in}
 use Rattle.chain_exec.specs.Effect.{History}
-use Rattle.cli_output.specs.chain_replay.Chain.{ChainState, StandsFor}
+use Rattle.cli_proofs.specs.cli_output.chain_replay.Chain.{ChainState, StandsFor}
 use Rattle.merkle_dag.specs.Ledger.{Ledger}
-use Rattle.cli_output.proofs.rooted_chain.Rooted.{as_many}
-use Rattle.cli_output.proofs.Reached.{block_reached}
+use Rattle.cli_proofs.proofs.cli_output.rooted_chain.Rooted.{as_many}
+use Rattle.cli_proofs.proofs.cli_output.Reached.{block_reached}
 use Rattle.cli_proofs.specs.Exposing.{ledger_kept}
-use Rattle.cli_output.specs.cli_lines.Lines.{trace_lines}
-use Rattle.cli_output.specs.cli_lines.Outcome.{outcome_with}
-use Rattle.cli_output.specs.cli_lines.declared.outcome.Outcome.{Outcome}
-use Rattle.cli_output.specs.cli_lines.declared.outcome.Ending.TheVariants as endings
-use Rattle.cli_output.specs.Output.{trace_outcome}
+use Rattle.cli_proofs.specs.cli_output.cli_lines.Lines.{trace_lines}
+use Rattle.cli_proofs.specs.cli_output.cli_lines.Outcome.{outcome_with}
+use Rattle.cli_proofs.specs.cli_output.cli_lines.declared.outcome.Outcome.{Outcome}
+use Rattle.cli_proofs.specs.cli_output.cli_lines.declared.outcome.Ending.TheVariants as endings
+use Rattle.cli_proofs.specs.cli_output.Output.{trace_outcome}
 
 -- what is printed for the version that was found
 pub trace_told : (ledger : Ledger) (kept : ChainState) (key : List ℕ) (at : ℕ)

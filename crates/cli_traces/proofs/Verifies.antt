@@ -9,14 +9,15 @@ use Rattle.trace_commands.specs.declared.verification.TraceVerification.TheVaria
 use Rattle.trace_commands.specs.declared.verification.TraceVerification.TheVariants.{Rejected}
 use Rattle.trace_commands.specs.declared.verification.TraceVerification.TheVariants.{BadHex}
 use Rattle.cli_words.specs.declared.words.Command.TheVariants.{VerifyTrace}
-use Rattle.cli_output.specs.cli_lines.declared.whole.TheConstants.{MAX_WHOLE_INPUT_BYTES}
-use Rattle.cli_output.specs.cli_lines.declared.outcome.Outcome.{Outcome}
-use Rattle.cli_output.specs.cli_lines.Outcome.{status_of, bad_input}
-use Rattle.cli_output.specs.cli_lines.Whole.{IsWholeInput}
-use Rattle.cli_output.specs.Output.{output_of, IsVerifyTraceOutput, LongTrace, VerifiedTrace}
-use Rattle.cli_output.specs.Traces.{trace_verification_outcome}
-use Rattle.cli_output.specs.Running.{MayEnd}
-use Rattle.cli_output.specs.Scanning.{IsVerifyTraceOutcome}
+use Rattle.cli_proofs.specs.cli_output.cli_lines.declared.whole.TheConstants.{MAX_WHOLE_INPUT_BYTES}
+use Rattle.cli_proofs.specs.cli_output.cli_lines.declared.outcome.Outcome.{Outcome}
+use Rattle.cli_proofs.specs.cli_output.cli_lines.Outcome.{status_of, bad_input}
+use Rattle.cli_proofs.specs.cli_output.cli_lines.Whole.{IsWholeInput}
+use Rattle.cli_proofs.specs.cli_output.Output.{output_of, IsVerifyTraceOutput, LongTrace}
+use Rattle.cli_proofs.specs.cli_output.Output.{VerifiedTrace}
+use Rattle.cli_proofs.specs.cli_output.Traces.{trace_verification_outcome}
+use Rattle.cli_proofs.specs.cli_output.Running.{MayEnd}
+use Rattle.cli_proofs.specs.cli_output.Scanning.{IsVerifyTraceOutcome}
 
 -- an input that was read whole
 whole_here : (root : List ℕ) (key : List ℕ) (at : ℕ) (first left : Option (List ℕ)) (bytes : List ℕ)

@@ -4,13 +4,13 @@ ghost use Rattle.std.specs.Prelude.{◌≡◌, true, List, IfOk, IsErrOf};
 ghost use Rattle.lc_base.specs.Faults.{HasCause};
 ghost use Rattle.block_codec.specs.declared.block.Block.{Block as Blocks};
 ghost use Rattle.chain_exec.specs.Compiled.{compiled_in};
-ghost use Rattle.cli_output.specs.chain_replay.Chain.{ChainState, StandsFor};
+ghost use Rattle.cli_proofs.specs.cli_output.chain_replay.Chain.{ChainState, StandsFor};
 ghost use Rattle.scratch_model.specs.Scratch.{is_known};
 ghost use Rattle.merkle_dag.specs.Lineage.{AgreesWith, ledger_in};
-ghost use Rattle.cli_output.specs.{Output.{trace_outcome}, Scanning.{EndsAsked}};
+ghost use Rattle.cli_proofs.specs.cli_output.{Output.{trace_outcome}, Scanning.{EndsAsked}};
 ghost use Rattle.cli_proofs.specs.Exposing.{ledger_kept};
 
-use cli_output::{Ending, Outcome, OutcomeStop, beyond, trace_lines};
+use cli_proofs::{Ending, Outcome, OutcomeStop, beyond, trace_lines};
 use lc_base::Key;
 use lineage_trace::{Lineage, QueryError, Steps, trace as trace_version};
 use scratch_model::Scratch;

@@ -3,18 +3,17 @@
 
 ghost use Rattle.std.specs.Prelude.{◌≡◌, [], ◌∷◌, Some, IfOk, IfSome, IsErrOf};
 ghost use Rattle.lc_base.specs.Faults.{HasCause};
-ghost use Rattle.cli_output.specs.cli_lines.Outcome.{status_of, outcome_with};
+ghost use Rattle.cli_proofs.specs.cli_output.cli_lines.Outcome.{status_of, outcome_with};
 ghost use Rattle.cli_words.specs.declared.words.Command.TheVariants.{VerifyTrace};
 ghost use Rattle.trace_commands.specs.Lines.{rejected_trace_line};
-ghost use Rattle.cli_output.specs.{
+ghost use Rattle.cli_proofs.specs.cli_output.{
   Traces.{trace_verification_outcome},
   Running.{MayEnd},
   Scanning.{IsVerifyTraceOutcome},
   Telling.{OnlyReads},
 };
 
-use cli_output::{Ending, Outcome, OutcomeStop, read_whole, trace_lines};
-use cli_proofs::bad_hex;
+use cli_proofs::{Ending, Outcome, OutcomeStop, bad_hex, read_whole, trace_lines};
 use lc_base::{Digest, Key, Memory};
 use lc_io::Source;
 use std::alloc::Global;

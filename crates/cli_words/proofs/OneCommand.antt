@@ -17,7 +17,11 @@ use Rattle.cli_words.specs.declared.words.BlockVersion.{BlockVersion}
 use Rattle.cli_words.specs.declared.words.BlockVersion.TheVariants as versions
 use Rattle.cli_words.specs.declared.words.Generation.{Generation}
 use Rattle.cli_words.specs.declared.words.Command.{Command}
-use Rattle.cli_words.specs.declared.words.Command.TheVariants.{Scan, Fmt, Pack, Gen, Load, Append, Upgrade, Root, Ask, Prove, Verify, Expose, Trace, ProveTrace, VerifyTrace, Range, ProveRange, VerifyRange}
+use Rattle.cli_words.specs.declared.words.Command.TheVariants.{Scan, Fmt, Pack, Gen, Load, Append}
+use Rattle.cli_words.specs.declared.words.Command.TheVariants.{Upgrade, Root, Ask, Prove, Verify}
+use Rattle.cli_words.specs.declared.words.Command.TheVariants.{Expose, Trace, ProveTrace}
+use Rattle.cli_words.specs.declared.words.Command.TheVariants.{VerifyTrace, Range, ProveRange}
+use Rattle.cli_words.specs.declared.words.Command.TheVariants.{VerifyRange, MakeLight, Light}
 use Rattle.cli_words.specs.Words.{kind_word, query_words, scan_words, fmt_words, pack_words, generation_words, ask_words, root_words, prove_words, verify_words, expose_words, trace_words, prove_trace_words, verify_trace_words, range_words, prove_range_words, verify_range_words, command_words, IsQuery, IsGeneration, IsRootGiven, AreBlocks, Fits, CanBeGiven, IsCommand, IsOneCommand}
 
 pub one_number : (m n : ℕ) → m < 2 ^ 32 → n < 2 ^ 32 → decimal m ≡ decimal n → m ≡ n
@@ -222,6 +226,8 @@ data Form : Type 0 where
   IsRangeForm : Form
   IsProveRangeForm : Form
   IsVerifyRangeForm : Form
+  IsMakeLightForm : Form
+  IsLightForm : Form
   NoForm : Form
 
 abbrev form_of : Command → Form
@@ -243,6 +249,8 @@ form_of (VerifyTrace root key at) = IsVerifyTraceForm
 form_of (Range key from to) = IsRangeForm
 form_of (ProveRange key from to root_at) = IsProveRangeForm
 form_of (VerifyRange root key from to) = IsVerifyRangeForm
+form_of MakeLight = IsMakeLightForm
+form_of Light = IsLightForm
 
 abbrev is_word : List ℕ → List ℕ → Bool
 is_word word other = pointwise ◌==◌ word other
@@ -264,6 +272,11 @@ range_form (word ∷ second ∷ third ∷ []) = IsRangeForm
 range_form (word ∷ second ∷ third ∷ fourth ∷ others) =
     if is_word word (codes "prove") then IsProveRangeForm else IsVerifyRangeForm
 
+-- by what follows the word `light`: nothing, or the word `make`
+abbrev light_form : List (List ℕ) → Form
+light_form [] = IsLightForm
+light_form (word ∷ others) = IsMakeLightForm
+
 -- by the first word; what is none of these is a kind of question
 abbrev form_by : List ℕ → List (List ℕ) → Form
 form_by word others =
@@ -280,7 +293,8 @@ form_by word others =
     else (if is_word word (codes "expose") then IsExposeForm
     else (if is_word word (codes "trace") then trace_form others
     else (if is_word word (codes "range") then range_form others
-    else IsAskForm))))))))))))
+    else (if is_word word (codes "light") then light_form others
+    else IsAskForm)))))))))))))
 
 abbrev form_in : List (List ℕ) → Form
 form_in [] = NoForm
@@ -313,6 +327,8 @@ form_is (VerifyTrace root key at) = refl
 form_is (Range key from to) = refl
 form_is (ProveRange key from to root_at) = refl
 form_is (VerifyRange root key from to) = refl
+form_is MakeLight = refl
+form_is Light = refl
 
 -- a command of a form is that command
 abbrev HasForm : Form → Command → Type 0
@@ -341,6 +357,8 @@ HasForm IsProveRangeForm command = (key : List ℕ) × (from : ℕ) × (to : ℕ
     × (command ≡ ProveRange key from to root_at)
 HasForm IsVerifyRangeForm command = (root : Digest) × (key : List ℕ) × (from : ℕ) × (to : ℕ)
     × (command ≡ VerifyRange root key from to)
+HasForm IsMakeLightForm command = command ≡ MakeLight
+HasForm IsLightForm command = command ≡ Light
 HasForm NoForm command = ⊥
 
 has_form : (command : Command) → HasForm (form_of command) command
@@ -362,6 +380,8 @@ has_form (VerifyTrace root key at) = (root, key, at, refl)
 has_form (Range key from to) = (key, from, to, refl)
 has_form (ProveRange key from to root_at) = (key, from, to, root_at, refl)
 has_form (VerifyRange root key from to) = (root, key, from, to, refl)
+has_form MakeLight = refl
+has_form Light = refl
 
 -- ---- commands with the same words are one
 
@@ -404,6 +424,8 @@ one_of_form (ProveRange x i m r) b (y, j, n, s, is) = subst (AreOne (ProveRange 
 one_of_form (VerifyRange r x i m) b (s, y, j, n, is) =
     subst (AreOne (VerifyRange r x i m)) (sym is)
     (λ is_a is_b same. one_verify_range r s x y i j m n is_a is_b same)
+one_of_form MakeLight b is = subst (AreOne MakeLight) (sym is) (λ is_a is_b same. refl)
+one_of_form Light b is = subst (AreOne Light) (sym is) (λ is_a is_b same. refl)
 
 one_given : (a b : Command) → AreOne a b
 one_given a b is_a is_b same =

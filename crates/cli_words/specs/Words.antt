@@ -16,6 +16,7 @@ use Rattle.cli_words.specs.declared.words.Command.{Command}
 use Rattle.cli_words.specs.declared.words.Command.TheVariants.{Scan, Fmt, Pack, Gen, Load, Append, Upgrade, Root, Ask, Prove, Verify, Expose}
 use Rattle.cli_words.specs.declared.words.Command.TheVariants.{Trace, ProveTrace, VerifyTrace}
 use Rattle.cli_words.specs.declared.words.Command.TheVariants.{Range, ProveRange, VerifyRange}
+use Rattle.cli_words.specs.declared.words.Command.TheVariants.{MakeLight, Light}
 
 -- The word for a kind of question.
 abbrev pub kind_word : Kind → List ℕ
@@ -123,6 +124,14 @@ abbrev pub verify_range_words : Digest → List ℕ → ℕ → ℕ → List (Li
 verify_range_words root key from to =
     codes "range" ∷ codes "verify" ∷ encode_lower root.0 ∷ key ∷ decimal from ∷ decimal to ∷ []
 
+-- The words of the command that prints a light file: light make.
+abbrev pub make_light_words : List (List ℕ)
+make_light_words = codes "light" ∷ codes "make" ∷ []
+
+-- The word of the command that checks proofs by a light file: light.
+abbrev pub light_words : List (List ℕ)
+light_words = codes "light" ∷ []
+
 -- The first block and the last one of a range, in this order: numbers of 32 bits.
 pub record AreBlocks (from to : ℕ) : Type 0 where
   pub in_order : from ≤ to
@@ -158,6 +167,8 @@ command_words (VerifyTrace root key at) = verify_trace_words root key at
 command_words (Range key from to) = range_words key from to
 command_words (ProveRange key from to root_at) = prove_range_words key from to root_at
 command_words (VerifyRange root key from to) = verify_range_words root key from to
+command_words MakeLight = make_light_words
+command_words Light = light_words
 
 -- A command that words can spell: its keys are keys, its numbers have 32 bits, its roots have 32
 -- bytes, a generation makes a number of blocks that may be made at once, and the first block of a
@@ -181,6 +192,8 @@ CanBeGiven (VerifyTrace root key at) = IsRootGiven root × IsKey key × (at < 2 
 CanBeGiven (Range key from to) = IsKey key × AreBlocks from to
 CanBeGiven (ProveRange key from to root_at) = IsKey key × AreBlocks from to × (root_at < 2 ^ 32)
 CanBeGiven (VerifyRange root key from to) = IsRootGiven root × IsKey key × AreBlocks from to
+CanBeGiven MakeLight = Unit {0}
+CanBeGiven Light = Unit {0}
 
 -- The command that the words are, or None if no command has these words.
 abbrev pub IsCommand : List (List ℕ) → Option Command → Type 0
@@ -280,6 +293,11 @@ abbrev pub IsVerifyRange : List (List ℕ) → Option Command → Type 0
 IsVerifyRange words (Some command) = CanBeGiven command × (words ≡ command_words command)
 IsVerifyRange words None = (root : Digest) (key : List ℕ) (from to : ℕ) → IsRootGiven root
     → IsKey key → AreBlocks from to → words ≡ verify_range_words root key from to → ⊥
+
+-- The command of a light file; None if the words are not those of one.
+abbrev pub IsLight : List (List ℕ) → Option Command → Type 0
+IsLight words (Some command) = CanBeGiven command × (words ≡ command_words command)
+IsLight words None = (words ≡ make_light_words → ⊥) × (words ≡ light_words → ⊥)
 
 -- Whether this is the only word.
 abbrev pub IsAlone : List ℕ → List (List ℕ) → Bool → Type 0

@@ -2,6 +2,7 @@
 #![tactic(auto)]
 
 mod formatting;
+mod lighting;
 mod packing;
 mod proving;
 mod questions;
@@ -10,4 +11,5 @@ mod single;
 mod tracing;
 mod words;
 
+pub use single::kind_word;
 pub use words::{BlockVersion, Command, Edition, Generation, MAX_GENERATED_BLOCKS, command_of};

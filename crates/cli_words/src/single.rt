@@ -1,7 +1,7 @@
 //! Reading single words: a number, key, kind or digest has one spelling only.
 
 ghost use Rattle.std.specs.Prelude.{◌≡◌, ◌↔◌, IsTrue};
-ghost use Rattle.cli_words.specs.Words.{IsKindOf, IsKeyOf, IsNumberOf, IsCount, IsCountOf, AreBlocksOf, IsDigestOf, starts_as_number};
+ghost use Rattle.cli_words.specs.Words.{IsKindOf, IsKeyOf, IsNumberOf, IsCount, IsCountOf, AreBlocksOf, IsDigestOf, kind_word, starts_as_number};
 ghost use Rattle.hex.specs.Hex.{encode_lower};
 
 use crate::words::MAX_GENERATED_BLOCKS;
@@ -84,6 +84,17 @@ pub(crate) fn kind_of(text: &str) -> Option<Kind>
         "back" => Some(Kind::Back),
         "fwd" => Some(Kind::Fwd),
         _ => None,
+    }
+}
+
+/// The word for a kind of question.
+pub fn kind_word(kind: Kind) -> &'static str
+    ensures { result.now ≡ kind_word kind }
+{
+    match kind {
+        Kind::Hist => "hist",
+        Kind::Back => "back",
+        Kind::Fwd => "fwd",
     }
 }
 

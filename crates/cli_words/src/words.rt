@@ -4,6 +4,7 @@ ghost use Rattle.std.specs.Prelude.{map, string_bytes, IfSome};
 ghost use Rattle.cli_words.specs.Words.{CanBeGiven, IsCommand, IsOneCommand, IsGenerationOf, IsAlone};
 
 use crate::formatting::fmt_of;
+use crate::lighting::light_of;
 use crate::packing::pack_of;
 use crate::proving::{expose_of, prove_of, verify_of};
 use crate::questions::{ask_of, root_of, scan_of};
@@ -132,6 +133,11 @@ pub enum Command {
         from: u32,
         to: u32,
     },
+    /// `light make`: print the light file of the log: of each block its digest, and the root at it.
+    MakeLight,
+    /// `light`: check the proofs that follow a light file in the input, each by its own question,
+    /// and print their answers.
+    Light,
 }
 
 /// The blocks of the words `WORD N SEED`; `None` exactly if the words are not of this form.
@@ -225,6 +231,9 @@ fn parse_command(words: &[String]) -> Option<Command>
         return Some(command);
     }
     if let Some(command) = verify_range_of(words) {
+        return Some(command);
+    }
+    if let Some(command) = light_of(words) {
         return Some(command);
     }
     match root_of(words) {

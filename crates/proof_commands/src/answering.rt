@@ -71,7 +71,7 @@ fn uses_of(alloc: Global, uses: &UseView) -> Result<DepList, Memory>
 }
 
 /// Copies an answer, with its texts and lists. `Memory` if the allocator has no room.
-pub(crate) fn answer_of(alloc: Global, found: &Found) -> Result<Answer, Memory>
+pub fn answer_of(alloc: Global, found: &Found) -> Result<Answer, Memory>
     requires { HasValue (answer_seen found.now) }
     ensures { IfOk result (λ answer. answer ≡ answer_seen found.now) }
 {

@@ -6,6 +6,7 @@ mod lines;
 mod verification;
 mod verifying;
 
+pub use answering::answer_of;
 pub use lines::{reject_text, rejected_line};
 pub use proof_verifier::accept;
 pub use verification::{HexFault, Verification};

@@ -9,6 +9,7 @@ use Rattle.cli_output.specs.Uses.{changes_log}
 use Rattle.chain_cli.proofs.Runs.{with_status}
 use Rattle.chain_cli.proofs.Moments.{any_command}
 use Rattle.chain_cli.proofs.OneOutput.{compiled_by}
+use Rattle.chain_cli.proofs.HeldLights.{made_light_files_are_whole}
 use Rattle.chain_cli.proofs.run.run.Goals as goal
 
 pub returns-clause-output : goal.returns-clause-output
@@ -40,3 +41,6 @@ returns-clause-log_goes_on g c = (
   decided,
   any_command g.M.Clock.now g.M.Clock.disk g.M.Clock.told next_in_log (changes_log c.command_of-command.result) c.args.machine.now c.run_words.new.machine c.requires.settled c.run_words.ensures.untouched c.run_words.ensures.log_goes_on,
 )
+
+pub returns-clause-light_made : goal.returns-clause-light_made
+returns-clause-light_made g c = made_light_files_are_whole

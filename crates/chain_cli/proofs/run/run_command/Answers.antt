@@ -1,8 +1,10 @@
-use Rattle.std.proofs.Common.{Some}
+use Rattle.std.proofs.Common.{Some, refl}
 use Rattle.scratch_model.specs.Scratch.{is_known}
 use Rattle.cli_append.specs.recovery.Node.{next_in_chain}
+use Rattle.cli_words.specs.declared.words.Command.TheVariants.{MakeLight, Light}
 use Rattle.cli_output.specs.Telling.{status_of_result}
-use Rattle.chain_cli.proofs.Ends.{done_ends, no_log_found, others_keep}
+use Rattle.chain_cli.proofs.Ends.{done_ends, found_log, no_log_found, of_given, others_keep}
+use Rattle.chain_cli.proofs.Lighted.{light_run}
 use Rattle.chain_cli.proofs.Runs.{gen_run, found_run, of_command}
 use Rattle.chain_cli.proofs.run.run_command.Goals as goal
 
@@ -14,6 +16,38 @@ returns-in-Gen-clause-run g c =
 pub returns-in-Gen-clause-ends : goal.returns-in-Gen-clause-ends
 returns-in-Gen-clause-ends g c =
     done_ends c.generate.result c.args.command.now c.generate.ensures.ending c.generate.ensures.only
+
+pub returns-in-MakeLight-clause-run : goal.returns-in-MakeLight-clause-run
+returns-in-MakeLight-clause-run g c =
+    of_command g.M.Clock.now g.M.Clock.disk g.M.Clock.told c.args.machine.now
+    c.make_light.new.machine (status_of_result c.make_light.result)
+    (g.I.Source.left c.args.source.now) (g.I.Source.left c.args.source.now)
+    (is_known (g.S.Scratch.state c.args.scratch.now)) c.args.command.now MakeLight c.in-MakeLight.is
+    (c.make_light.ensures.run (g.I.Source.left c.args.source.now))
+
+pub returns-in-MakeLight-clause-ends : goal.returns-in-MakeLight-clause-ends
+returns-in-MakeLight-clause-ends g c = of_given (status_of_result c.make_light.result)
+    c.args.command.now MakeLight c.in-MakeLight.is c.make_light.ensures.ends
+
+pub returns-in-Light-clause-run : goal.returns-in-Light-clause-run
+returns-in-Light-clause-run g c =
+    of_command g.M.Clock.now g.M.Clock.disk g.M.Clock.told c.args.machine.now c.light.new.machine
+    (status_of_result c.light.result) (g.I.Source.left c.args.source.now)
+    (g.I.Source.left c.light.new.source) (is_known (g.S.Scratch.state c.args.scratch.now))
+    c.args.command.now Light c.in-Light.is
+    (light_run g.M.Clock.now g.M.Clock.disk g.M.Clock.told c.args.machine.now c.light.new.machine
+    c.light.result (g.I.Source.left c.args.source.now) (g.I.Source.left c.light.new.source)
+    (is_known (g.S.Scratch.state c.args.scratch.now)) c.requires.settled
+    c.light.ensures.disk.stays
+    (λ input is. c.light.ensures.says input is next_in_chain) c.light.ensures.leaves)
+
+pub returns-in-Light-clause-ends : goal.returns-in-Light-clause-ends
+returns-in-Light-clause-ends g c = of_given (status_of_result c.light.result) c.args.command.now
+    Light c.in-Light.is c.light.ensures.ends
+
+pub returns-in-Light-clause-no_log : goal.returns-in-Light-clause-no_log
+returns-in-Light-clause-no_log g c none =
+    absurd (found_log (status_of_result c.light.result) Light refl c.light.ensures.ends none)
 
 pub returns-in_default-clause-run : goal.returns-in_default-clause-run
 returns-in_default-clause-run g c =

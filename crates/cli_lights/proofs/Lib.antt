@@ -1,0 +1,5 @@
+pub mod Framed
+pub mod Proofs
+pub mod Checked
+pub mod Read
+pub mod Made

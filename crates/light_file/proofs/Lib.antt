@@ -1,0 +1,4 @@
+pub mod BlockRoots
+pub mod Files
+pub mod Taking
+pub mod Answering
