@@ -43,15 +43,15 @@ def drawn_links(older, rng):
     return links if rng.randrange(20) else links[1:]
 
 
-def drawn_version(older, key, rng):
-    """A version that mostly is of the same key and of a later block than those before."""
+def drawn_version(older, key, rng, closed=()):
+    """A version that mostly is of the same key and of a later block than those before, and closes these uses."""
     last = older[-1].block if older else -1
     block = rng.randrange(BLOCKS) if rng.randrange(30) == 0 else last + rng.choice([1, 1, 1, 2, 3])
     key = key if rng.randrange(30) else rng.choice(KEYS)
     links = drawn_links(older, rng)
     body = value(rng.choice(VALUES)) + number(0, 1)
     header = string(key) + number(block, 4) + number(rng.randrange(3), 2) + digest_of(b"\3" + body)
-    header += number(0, 8) + uses_digest([]) + number(len(links), 1)
+    header += number(len(closed), 8) + uses_digest(closed) + number(len(links), 1)
     header += b"".join(number(target, 4) + digest for target, digest in links)
     return Version(key, block, header, body, links)
 
@@ -65,11 +65,11 @@ def following(version, first, last):
     return version.links[0] if is_between else None
 
 
-def way(versions, first, last):
-    """The versions of a proof, the newest first, as far as each is found by its digest."""
+def way(versions, first, last, most=2 * VERSIONS):
+    """The versions of a proof, the newest first, as far as each is found by its digest, and at most so many."""
     by_digest = {version.name()[1]: version for version in versions}
     passed, link = [], versions[-1].name()
-    while link and link[1] in by_digest and len(passed) < 2 * VERSIONS:
+    while link and link[1] in by_digest and len(passed) < most:
         passed.append(by_digest[link[1]])
         link = following(passed[-1], first, last)
     return passed
@@ -87,13 +87,14 @@ def changed(items, others, rng):
     return items
 
 
-def drawn_leaf(newest, key, rng):
-    """A leaf that mostly is of the key and of the newest version; else one of another key, which may cover it."""
+def drawn_leaf(newest, key, rng, uses=()):
+    """A leaf that mostly is of the key and of the newest version, with its uses; else one of another key, which may
+    cover it."""
     of = key if rng.randrange(12) else rng.choice(KEYS)
     following_key = rng.choice([b"\0", b"\0", b"\1" + string(rng.choice(KEYS))])
     block, digest = newest.name()
     block = block if rng.randrange(30) else rng.randrange(BLOCKS)
-    return string(of) + following_key + number(block, 4) + digest + number(0, 8) + uses_digest([])
+    return string(of) + following_key + number(block, 4) + digest + number(len(uses), 8) + uses_digest(uses)
 
 
 def drawn_range(rng):

@@ -57,8 +57,9 @@ def drawn_version(versions, rng):
     return Version(key, block, header + number(0, 8) + uses_digest([]) + number(0, 1), body, deps)
 
 
-def items_of(start, versions):
-    """What the proof of a version lists, as far as each that is wanted is found by its digest."""
+def items_of(start, versions, most=4 * VERSIONS):
+    """What the proof of a version lists, as far as each that is wanted is found by its digest, and not many more than
+    the most."""
     by_digest = {version.name()[2]: version for version in versions}
     wanted, items = set(start.deps), []
     while wanted:
@@ -67,7 +68,7 @@ def items_of(start, versions):
         if last[2] in by_digest:
             items.append(by_digest[last[2]])
             wanted.update(items[-1].deps)
-        if len(items) > 4 * VERSIONS:
+        if len(items) > most:
             break
     return items
 
