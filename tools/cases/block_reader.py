@@ -182,6 +182,11 @@ class Chain:
         self.last_version = version
         return True
 
+    def take_back(self):
+        """Takes the last block out of a log that has one."""
+        for held in (self.frames, self.digests, self.blocks):
+            held.pop()
+
     def fold(self, file):
         """Takes the frames of a file, shorter than any that has too many of them: of each that was taken its
         number and whether its block is new; the line of the refused one, or none; and how much was read."""

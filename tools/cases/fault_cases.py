@@ -172,11 +172,15 @@ class Append:
         return log_of(firsts) if count else b""
 
     def is_kept(self, before, begun, image):
-        """Whether an image has what it must, where lines of so many blocks were begun: the first of the blocks, those
-        that were there before and those of the lines among them; and it is marked as it was."""
+        """Whether an image has what it must, where these lines were begun: the first of the blocks, those that were
+        there before and those of the lines among them; and it is marked as it was."""
         (frames, is_marked), (held, was_marked) = chain_in(image), chain_in(before)
         is_first = frames == self.frames[: len(frames)]
-        return is_first and len(frames) >= max(begun, len(held)) and is_marked == was_marked
+        return is_first and len(frames) >= max(self.sure(begun), len(held)) and is_marked == was_marked
+
+    def sure(self, begun):
+        """How many blocks are sure to be there once these lines were begun."""
+        return len(begun)
 
     def is_done(self, _, image):
         """Whether an image has all the blocks, and the mark where it must."""
@@ -208,7 +212,7 @@ class Upgrade:
     def is_kept(self, before, begun, image):
         """Whether an image has the blocks that were there, and a mark where there was one or a line was begun."""
         (frames, is_marked), (held, was_marked) = chain_in(image), chain_in(before)
-        return frames == held and is_marked >= max(was_marked, begun)
+        return frames == held and is_marked >= (was_marked or bool(begun))
 
     def is_done(self, before, image):
         """Whether an image has the blocks that were there, and the mark."""
@@ -271,7 +275,7 @@ def left_by_crashes(run, image, number, is_failed):
     calls = list(run.calls(image))
     failed = calls[number] if is_failed and number < len(calls) else None
     # Each line that was begun by then.
-    begun = len(told_by(calls[: number + 1]))
+    begun = told_by(calls[: number + 1])
     for left in disk_after(image, calls[:number], failed).images():
         assert run.is_kept(image, begun, left)
         yield left

@@ -33,7 +33,9 @@ USED_LINES = USED.splitlines(keepends=True)
 MARKED = recall_chain(1)
 MARKED_LOG = MARKED.log(1)
 # The commands that change the log.
-CHANGING = ["append", "upgrade"]
+CHANGING = ["append", "follow", "upgrade"]
+# The last line of `follow` over all three blocks.
+FOLLOWED = "follow blocks 3 waiting 0\n"
 ERRORS = [errno.ENOSPC, errno.EINTR]
 
 # ---- calls as words
@@ -190,6 +192,8 @@ RUNS = [
     ("append", RECALL_FILE, log_of(FRAMES[0]), known_lines(1) + LINES[1:]),
     ("append", RECALL_FILE, RECALL_LOG, known_lines(3)),
     ("append", MARKED.file, MARKED_LOG, known_lines(1) + MARKED.lines[1:]),
+    ("follow", FRAMES[2] + FRAMES[0] + FRAMES[1], None, ["kept 2\n", *LINES, FOLLOWED]),
+    ("follow", RECALL_FILE, log_of(FRAMES[0]), [*known_lines(1), *LINES[1:], FOLLOWED]),
     ("upgrade", b"", None, [upgraded(0)]),
     ("upgrade", b"", log_of(FRAMES[0]), [upgraded(1)]),
     ("upgrade", b"", RECALL_LOG, [upgraded(3)]),
@@ -245,16 +249,17 @@ def failing_call(checks, watched, run, good, setting):
     if words not in CHANGING:
         checks.same(f"log after {name}", ran.log, log)
         return
-    keeps_what_was_told(checks, words, log, ran.log, told, name)
+    promises = sum(line.startswith(("block", "known", "upgraded", "already")) for line in lines[:told])
+    keeps_what_was_told(checks, words, log, ran.log, promises, name)
     goes_on(checks, watched, ran.log, name)
 
 
 def keeps_what_was_told(checks, words, before, after, told, name):
-    """A log after a run that told so many lines has the blocks and the mark that it had, and what was told of: that is
-    blocks, or the mark."""
+    """A log after a run that told so many lines of blocks or of the mark has the blocks and the mark that it had, and
+    what was told of."""
     held, had = held_frames(after or b""), held_frames(before or b"")
     checks.holds(f"the log has first ones of the blocks after {name}", chain_of(after) is not None)
-    if words == "append":
+    if words != "upgrade":
         checks.holds(f"each block is there that was told of, after {name}", len(held) >= max(told, len(had)))
         checks.same(f"whether the log is marked after {name}", is_marked(after or b""), is_marked(before or b""))
     else:
@@ -313,6 +318,8 @@ def rest_of_input(checks, watched):
         # The third block in place of the second one; a frame without a byte.
         ("append", first + third + second, None, REFUSED, len(first + third)),
         ("append", first + bytes(4) + second, None, REFUSED, len(first) + 4),
+        ("follow", third + first + second, None, DONE, len(RECALL_FILE)),
+        ("follow", first + bytes(4) + second, None, REFUSED, len(first) + 4),
         (question, first + third + second, None, REFUSED, len(first + third)),
         (QUESTION, RECALL_FILE, RECALL_LOG, DONE, 0),
         ("root", RECALL_FILE, RECALL_LOG, DONE, 0),

@@ -1,11 +1,18 @@
 /* A Kafka cluster of one broker, for tools/checks/try-kafka: the mock cluster of librdkafka, in memory,
- * with the topic `blocks` of one partition. It prints its address, and ends when its input does. */
+ * with the topics `blocks` of one partition and `frames` of three. It prints its address, and ends when its input
+ * does. */
 #include <librdkafka/rdkafka.h>
 #include <librdkafka/rdkafka_mock.h>
 #include <stdio.h>
 #include <unistd.h>
 
-enum { BROKERS = 1, PARTITIONS = 1, REPLICAS = 1 };
+enum { BROKERS = 1, REPLICAS = 1 };
+
+/* The topics, and how many partitions each has. */
+static const struct {
+    const char *name;
+    int partitions;
+} topics[] = { { "blocks", 1 }, { "frames", 3 } };
 
 int main(void)
 {
@@ -19,9 +26,15 @@ int main(void)
         return 1;
     }
     rd_kafka_mock_cluster_t *cluster = rd_kafka_mock_cluster_new(client, BROKERS);
-    if (cluster == NULL || rd_kafka_mock_topic_create(cluster, "blocks", PARTITIONS, REPLICAS)) {
+    if (cluster == NULL) {
         fprintf(stderr, "kafka_broker: no cluster\n");
         return 1;
+    }
+    for (size_t n = 0; n < sizeof topics / sizeof *topics; n++) {
+        if (rd_kafka_mock_topic_create(cluster, topics[n].name, topics[n].partitions, REPLICAS)) {
+            fprintf(stderr, "kafka_broker: no topic\n");
+            return 1;
+        }
     }
     printf("%s\n", rd_kafka_mock_cluster_bootstraps(cluster));
     fflush(stdout);

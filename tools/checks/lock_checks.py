@@ -1,4 +1,4 @@
-"""The lock of the log, which `append` and `upgrade` hold from before their first read to their end, and a log that
+"""The lock of the log, which a command that changes it holds from before its first read to its end, and a log that
 another program removes, replaces, cuts or extends meanwhile.
 
 What is expected was written from docs/log.md.
@@ -12,7 +12,7 @@ import tempfile
 from cases.log_cases import ALREADY, DISK_FAULT, DONE, SET_LOG, log_of, upgraded
 from checks.append_pairs import wait_for
 from checks.disk_calls import get, put
-from checks.edge_calls import FRAMES, LINES, MARKED_LOG, changes, steps
+from checks.edge_calls import CHANGING, FRAMES, LINES, MARKED_LOG, changes, steps
 from checks.log_runs import LINE_LIMIT, LOG, append, ask, held_frames, is_marked, known_lines, read_line, start_append
 from checks.log_runs import without_roots
 from checks.program_cases import EXPOSE, RAW_A_PROOF, RECALL_FILE, RECALL_LOG, RECALL_ROOTS, SET_LIGHT, USED
@@ -78,12 +78,12 @@ def end(running):
 
 
 def lock_of_another(checks, watched):
-    """Where another program holds the lock, also one that shares it, `append` and `upgrade` end before they have read,
-    written or told anything; questions are answered."""
+    """Where another program holds the lock, also one that shares it, a command that changes the log ends before it has
+    read, written or told anything; questions are answered."""
     for kind in [fcntl.LOCK_EX, fcntl.LOCK_SH]:
         with folder_of(RECALL_LOG) as folder, open(os.path.join(folder, LOG), "rb") as file:
             fcntl.flock(file, kind)
-            for words, source in [("append", RECALL_FILE), ("append", b""), ("upgrade", RECALL_FILE)]:
+            for words, source in [(words, RECALL_FILE) for words in CHANGING] + [("append", b"")]:
                 ran = watched.run_over(folder, words, source)
                 name = f"{words} over a log whose lock {kind} another program holds"
                 checks.same(name, (ran.told, ran.status, ran.log), ("", DISK_FAULT, RECALL_LOG))
@@ -107,7 +107,7 @@ def lock_of_another(checks, watched):
 
 def lock_of_a_run(checks, watched):
     """`append` holds the lock until it ends, also by a kill, over a log that it finds, from before it was given
-    anything, and one that it makes; another one, and an `upgrade`, end at once meanwhile."""
+    anything, and one that it makes; another one, a `follow`, and an `upgrade`, end at once meanwhile."""
     for held in [0, 1]:
         log = log_of(b"".join(FRAMES[:held])) if held else None
         with folder_of(log) as folder, running_append(watched, folder) as running:
@@ -121,6 +121,7 @@ def lock_of_a_run(checks, watched):
                 checks.holds("the lock is held", is_locked(folder))
             before = get(os.path.join(folder, LOG))
             checks.same("a second append", append(watched.program, folder, RECALL_FILE), ("", DISK_FAULT))
+            checks.same("a follower meanwhile", ask(watched.program, folder, "follow"), ("", DISK_FAULT))
             checks.same("an upgrade meanwhile", ask(watched.program, folder, "upgrade"), ("", DISK_FAULT))
             checks.same("log after that", get(os.path.join(folder, LOG)), before)
             words = "hist raw/lot/l1".split()

@@ -1,9 +1,10 @@
 """What the program must tell of changed inputs, by docs/formats.md, for tools/checks/try-mutants.
 
 Nothing of it comes from what the program told: blocks, files and logs are read by
-tools/cases/block_reader.py, proofs by verifiers/verify.py, roots and proofs of chains without calls worked
-out by tools/cases/root_cases.py, proof_cases.py, trace_cases.py, range_cases.py and light_cases.py there from the
-rows of their Sets, and drafts read by Python's reader of JSON.
+tools/cases/block_reader.py, followers are those of follow_model.py there, proofs are read by
+verifiers/verify.py, roots and proofs of chains without calls worked out by tools/cases/root_cases.py,
+proof_cases.py, trace_cases.py, range_cases.py and light_cases.py there from the rows of their Sets, and
+drafts read by Python's reader of JSON.
 """
 import dataclasses
 import itertools
@@ -13,6 +14,7 @@ import re
 from cases.block_files import CONFLICT, FIRST_VERSION, FOREIGN, NO_CONTRACT, OK, SECOND_VERSION, block_file
 from cases.block_files import block_digest, calls, deploys, number, sets
 from cases.block_reader import MAX_BUDGETS, MAX_NUMBER, MAX_TXS, Call, Deploy, Set, stands_for, Chain
+from cases.follow_model import BLOCK, follow_over
 from cases.light_cases import ENTRY_BYTES, HEAD_BYTES, light_file
 from cases.log_cases import ALREADY, BAD_INPUT, BEYOND, DAMAGED, DONE, NOT_A_LOG, REFUSED, REJECTED, USAGE, upgraded
 from cases.proof_cases import answer_of, proof_of
@@ -37,6 +39,7 @@ STATUSES = {
     "log": {DONE, USAGE, NOT_A_LOG, DAMAGED, BEYOND},
     "scan": {DONE, USAGE, REFUSED, BEYOND},
     "append": {DONE, USAGE, NOT_A_LOG, DAMAGED, REFUSED},
+    "follow": {DONE, USAGE, NOT_A_LOG, DAMAGED, REFUSED},
     "upgrade": {DONE, USAGE, NOT_A_LOG, DAMAGED},
     "fmt": {DONE, BAD_INPUT},
     "pack": {DONE, BAD_INPUT},
@@ -379,6 +382,24 @@ def check_append(mutant, result):
     check_what_is_left(result.log, chain)
 
 
+def check_follow(mutant, result):
+    if mutant.words != ["follow"]:
+        return
+    followed, follower = follow_over(mutant.log, mutant.source)
+    expect("status, and what is read", (result.status, result.read), (followed.status, followed.read))
+    turns, lines = followed.all_turns(), result.told.splitlines(keepends=True)
+    expect("last line", lines[len(turns) :], [followed.line])
+    for turn, told in zip(turns, lines):
+        if turn.what == BLOCK:
+            check_block_line(follower.chain, turn.number, told)
+        else:
+            expect("line of a turn", told, turn.line([]))
+    if follower:
+        check_what_is_left(result.log, follower.chain)
+    else:
+        expect("log", result.log, mutant.log)
+
+
 def check_what_is_left(log, chain):
     """A log has the blocks of a chain, and is marked as that is."""
     left, line = stands_for(log)
@@ -424,6 +445,7 @@ COMMANDS = {
     "log": check_log,
     "scan": check_scan,
     "append": check_append,
+    "follow": check_follow,
     "upgrade": check_upgrade,
     "fmt": check_fmt,
     "pack": check_pack,
@@ -528,6 +550,6 @@ def packed(source, version):
 def check_run(mutant, ran):
     """Raises what is wrong with a run."""
     hold(f"status {ran.status}", ran.status in STATUSES[mutant.kind])
-    if mutant.kind not in ("append", "upgrade"):
+    if mutant.kind not in ("append", "follow", "upgrade"):
         hold("the log was changed", ran.log == mutant.log)
     COMMANDS[mutant.kind](mutant, ran)

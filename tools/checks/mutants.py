@@ -29,8 +29,8 @@ GENERATED = (40, 7)
 TXS_AT = 37
 # How often each command is, of all mutants.
 SHARES = {
-    "verify": 16, "expose": 7, "trace": 9, "range": 10, "light": 9, "log": 21, "scan": 8, "append": 7, "fmt": 6,
-    "pack": 7,
+    "verify": 16, "expose": 7, "trace": 9, "range": 10, "light": 9, "log": 21, "scan": 8, "append": 7, "follow": 7,
+    "fmt": 6, "pack": 7,
 }
 LIGHT_MAKE = ["light", "make"]
 # The light files that are made have so many blocks at most.
@@ -67,8 +67,8 @@ class Mutant:
 @dataclasses.dataclass
 class Seeds:
     """What the cases have: proofs, each with its words and its log; proofs of ancestors and of ranges, each with its
-    words; light files with proofs behind them; logs; block files; block files that are appended to logs; contracts;
-    drafts."""
+    words; light files with proofs behind them; logs; block files; block files that are appended to logs, and those that
+    are delivered to followers; contracts; drafts."""
 
     proofs: list
     traces: list
@@ -77,6 +77,7 @@ class Seeds:
     logs: list
     files: list
     appended: list
+    followed: list
     contracts: list
     drafts: list
     # The transactions of all blocks, each once, as bytes.
@@ -126,7 +127,7 @@ def read_seeds():
             found["light"].append(source)
         elif command in ("root", "prove", "upgrade", "trace", "range", *KINDS) or words == LIGHT_MAKE:
             found["logs"].append((words, image))
-        elif command in ("scan", "append", "fmt", "pack"):
+        elif command in ("scan", "append", "follow", "fmt", "pack"):
             found[command].append((words, source, image or None))
     files = [bytes.fromhex(chain.split("\n")[0]) for chain in open(CONTRACT_CHAINS).read().split("\n\n")]
     files = [file for file in [*files, Generated(*GENERATED).file] if len(file) < LONGEST]
@@ -141,6 +142,7 @@ def read_seeds():
         found["logs"],
         found["scan"],
         found["append"],
+        found["follow"],
         [source for _, source, _ in found["fmt"]],
         [source for _, source, _ in found["pack"]],
         list(dict.fromkeys(tx for _, file, _ in found["scan"] for frame in file_frames(file) for tx in txs_of(frame))),
@@ -424,8 +426,18 @@ def appended_file(image, seeds, rng):
     return b"".join([*held, *linked(frames, second, rng)[len(held) :]])
 
 
+def in_any_order(file, rng):
+    """The frames of a file, most of them not far from their places; some are lost or repeated."""
+    frames, spread = file_frames(file), rng.choice([1, 2, 4, 100])
+    frames += rng.choices(frames, k=rng.choice([0, 0, 1, 3])) if frames else []
+    kept = rng.choice([1, 1, 0.8])
+    placed = [(at + rng.uniform(0, spread), frame) for at, frame in enumerate(frames) if rng.random() < kept]
+    return b"".join(frame for _, frame in sorted(placed, key=lambda place: place[0]))
+
+
 def log_mutant(seeds, rng):
-    """A log that is changed, and a question about it, or blocks that are appended to it, or an upgrade of it."""
+    """A log that is changed, and a question about it, or blocks that are appended to it or delivered to its follower,
+    or an upgrade of it."""
     words, image = rng.choice(seeds.logs)
     while not held_frames(image) and rng.randrange(8):
         words, image = rng.choice(seeds.logs)
@@ -433,7 +445,10 @@ def log_mutant(seeds, rng):
     image = changed_log(image, others, seeds.txs, rng)
     pick = rng.randrange(7)
     if pick == 0:
-        return Mutant("append", ["append"], appended_file(image, seeds, rng), image)
+        file = appended_file(image, seeds, rng)
+        if rng.randrange(2):
+            return Mutant("follow", ["follow"], in_any_order(file, rng), image)
+        return Mutant("append", ["append"], file, image)
     if pick == 6 or words[0] == "upgrade":
         words = rng.choice([["upgrade"]] * 20 + [["upgrade", "0"]])
         return Mutant("upgrade", words, rng.choice([b"", rng.choice(seeds.appended)[1]]), image)
@@ -469,11 +484,13 @@ def mutant(place, seeds):
         return light_mutant(seeds, rng)
     if kind == "log":
         return log_mutant(seeds, rng)
-    if kind in ("scan", "append"):
-        given = seeds.files if kind == "scan" else seeds.appended
+    if kind in ("scan", "append", "follow"):
+        given = {"scan": seeds.files, "append": seeds.appended, "follow": seeds.followed}[kind]
         words, file, log = rng.choice(given)
         others = [other for _, other, _ in rng.choices(given, k=4)]
         file = changed_file(file, others, seeds.txs, rng)
+        if kind == "follow" and rng.randrange(2):
+            file = in_any_order(file, rng)
         if kind == "scan" and len(words) == 4:
             words = [*words[:3], near(words[3], rng)]
         return Mutant(kind, list(words), file, log)

@@ -17,7 +17,7 @@ import tempfile
 from places import TOP
 
 PAGES = ["README.md", "examples/README.md", "examples/recall.md"]
-PAGES += [f"docs/{name}.md" for name in ("language", "log", "roots", "proofs", "light")]
+PAGES += [f"docs/{name}.md" for name in ("language", "log", "follow", "roots", "proofs", "light")]
 PAGES += sorted(f"docs/examples/{name}" for name in os.listdir(f"{TOP}/docs/examples"))
 INDENT = "    "
 PROMPT = f"{INDENT}$ "

@@ -71,6 +71,14 @@ RECALL_LINES = "".join(
     f"block {n} rows 2 status 0,0 root {root}\n" for n, root in enumerate(RECALL_ROOTS)
 )
 RECALL_KNOWN = "".join(f"known {n}\n" for n in range(3))
+FRAMES = frames_of(RECALL_FILE)
+
+
+def followed(blocks, waiting):
+    """The last line of `follow`."""
+    return f"follow blocks {blocks} waiting {waiting}\n"
+
+
 # What was made of the part p1.
 USED = """\
 block 0 uses 2
@@ -261,6 +269,14 @@ CASES = [
     Case(b"root 1", None, f"root 1 {RECALL_ROOTS[1]}\n", 0, log=RECALL_LOG),
     Case(b"append", b"", "", 0),
     Case(b"append", ONE_SET, SET_LINE, 0, log=SET_LOG[:1], after=SET_LOG),
+    # Blocks in any order: those that come early wait, also at the end, and others are dropped.
+    Case(b"follow", b"".join(reversed(FRAMES)), f"kept 2\nkept 1\n{RECALL_LINES}{followed(3, 0)}", 0, after=RECALL_LOG),
+    Case(b"follow", RECALL, RECALL_KNOWN + followed(3, 0), 0, log=RECALL_LOG),
+    Case(b"follow", FRAMES[2] * 2, f"kept 2\ndropped 1 taken\n{followed(1, 1)}", 0, log=log_of(FRAMES[0])),
+    Case(b"follow", FRAMES[1] + b"\0\0\0\1\3", f"kept 1\ndropped 1 malformed 0\n{followed(0, 1)}", 0),
+    Case(b"follow", ONE_SET, f"{SET_LINE}{followed(1, 0)}", 0, log=SET_LOG[:1], after=SET_LOG),
+    Case(b"follow", FRAMES[1] + bytes(4), "kept 1\nrefused frame 1 length 0\n", 8),
+    Case(b"follow", b"", followed(0, 0), 0),
     # The mark, which is put into the log once, and makes it where there is none. Nothing is read.
     Case(b"upgrade", None, upgraded(1), 0, streams="<&-", log=SET_LOG, after=MARKED_LOG),
     Case(b"upgrade", None, ALREADY, 0, streams="<&-", log=MARKED_LOG),

@@ -366,7 +366,7 @@ def drawn_uses_proof(size):
 
 def light_runs():
     """The light file of more blocks than a piece has; a proof that takes a whole frame, and one of a byte more, which
-    has none; and as many frames as may stand behind a light file, and one more."""
+    has none; and as many frames as may stand behind one, and one more."""
     made = Generated(2_000, 7)
     chain = Chain(made.file, made.rows, made.plain_lines())
     light = light_file(block_digests(chain.frames), map(bytes.fromhex, chain.roots))
@@ -382,9 +382,16 @@ def light_runs():
             yield run(b"light", one + frame(proof), told)
         else:
             yield run(b"light", one + frame(proof), f"refused frame 0 length {size}\n", REFUSED)
+    yield from frame_runs()
+
+
+def frame_runs():
+    """As many frames as an input may have, none of which is what it should be, and one more."""
     no_proofs = light_file([], []) + frame(b"x") * (MAX_FRAMES + 1)
     told = "".join(f"proof {at} rejected malformed 0\n" for at in range(MAX_FRAMES))
     yield run(b"light", no_proofs, f"{told}refused frame {MAX_FRAMES} many\n", REFUSED)
+    told = "".join(f"dropped {at} malformed 0\n" for at in range(MAX_FRAMES))
+    yield run(b"follow", frame(b"x") * (MAX_FRAMES + 1), f"{told}refused frame {MAX_FRAMES} many\n", REFUSED)
 
 
 # ---- limits of a transaction, in a block and in a draft

@@ -38,7 +38,7 @@ BANK_FILE = read(BANK)
 BANK_LOG = log_of(BANK_FILE)
 CUT_FILE = RECALL_FILE[:-1]
 # Those that store blocks, those that mark a log, and all others.
-APPENDS = [
+STORING = [
     Command("append", RECALL_FILE),
     Command("append", BANK_FILE),
     Command("append", RECALL_FILE, log_of(frames_of(RECALL_FILE)[0])),
@@ -47,6 +47,8 @@ APPENDS = [
     # Over a head that was begun, and over bytes behind a closed gate.
     Command("append", RECALL_FILE, CLOSED_HEAD + CLOSED),
     Command("append", RECALL_FILE, log_of(frames_of(RECALL_FILE)[0]) + CLOSED * 9),
+    Command("follow", RECALL_FILE),
+    Command("follow", RECALL_FILE, log_of(frames_of(RECALL_FILE)[0])),
 ]
 UPGRADES = [
     Command("upgrade"),
@@ -56,6 +58,8 @@ UPGRADES = [
     Command("upgrade", log=RECALL_LOG + CLOSED * 9),
 ]
 OTHERS = [
+    Command("follow", log=RECALL_LOG),
+    Command("follow", b"".join(frames_of(RECALL_FILE)[1:])),
     Command("scan hist raw/lot/l1 2", RECALL_FILE),
     Command("scan back raw/lot/l3 2", RECALL_FILE),
     Command("scan fwd bank/n 1", BANK_FILE),

@@ -83,10 +83,10 @@ def statuses_in(printed):
     return re.findall(r"block \d+ rows \d+ status (\S+) root", printed)
 
 
-def append(wrapper, folder, output):
-    """What `append` of the blocks says, and its status; its standard output is a file or a pipe."""
+def append(wrapper, folder, output, words="append"):
+    """What `append` or `follow` of the blocks says, and its status; its standard output is a file or a pipe."""
     streams = {"input": block_file(BLOCKS), "stdout": output, "stderr": subprocess.PIPE, "timeout": RUN_LIMIT}
-    return subprocess.run([wrapper, "append"], cwd=folder, **streams)
+    return subprocess.run([wrapper, words], cwd=folder, **streams)
 
 
 def words_for_statuses(checks, wrapper):
@@ -102,6 +102,9 @@ def words_for_statuses(checks, wrapper):
         again = append(wrapper, folder, subprocess.PIPE)
         checks.same("what is said of known blocks", (again.stdout, again.stderr), (b"known 0\nknown 1\nknown 2\n", b""))
         printed = ran.stdout
+    with tempfile.TemporaryDirectory() as folder:
+        ran = append(wrapper, folder, subprocess.PIPE, "follow")
+        checks.same("what is said of them by `follow`", (ran.returncode, ran.stderr.decode()), (DONE, SAID))
     for mode in ("wb", "ab"):
         with tempfile.TemporaryDirectory() as folder, open(f"{folder}/told", "wb") as before:
             before.write(b"block 7 rows 0 status 3 root of another run\n")

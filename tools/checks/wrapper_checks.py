@@ -34,6 +34,8 @@ QUIET = {"stdin": subprocess.DEVNULL, "stdout": subprocess.DEVNULL, "stderr": su
 # The commands that change the log.
 CHANGES = [command.form for command in commands.COMMANDS if command.changes_log]
 COPIED = ["lineage", "crates.txt", "HANDLES", "tools", "examples", "verifiers"]
+# The last line of `follow` over SET_FILE.
+FOLLOWED = b"follow blocks 1 waiting 0\n"
 # A log whose first byte was zeroed, and a file that begins so and is none.
 ZEROED_LOG = CLOSED + SET_LOG[1:]
 ZEROED_FILE = bytes(29)
@@ -91,6 +93,12 @@ SAID = [
     ("append", SECOND_FILE, MARKED_LOG, "has another block of this number"),
     ("append", SET_FILE + AFTER_SET + FIRST_AFTER_SET, BOTH_LOG, "has another block of this number"),
     ("append", FIRST_AFTER_BOTH, BOTH_LOG, "takes a block of version 2 next"),
+    ("follow 2", b"", None, "these are 2 words, and the command is `follow`"),
+    ("follow", b"[\n  [\n", None, "pack it first"),
+    ("follow", RECALL_FILE[:-1], None, "the input ends within this frame"),
+    ("follow", bytes(4), SET_LOG, "its length is 0"),
+    ("follow", SET_LOG, None, "tools/export-blocks LOG > BLOCKS"),
+    ("follow", b"", b"hello", "something else than a log"),
     ("upgrade 2", b"", None, "these are 2 words, and the command is `upgrade`"),
     ("upgrade", b"", b"hello", "something else than a log"),
     ("upgrade", b"", SET_LOG[:40], "was changed or cut"),
@@ -362,7 +370,8 @@ def disk_sentence_in(folder, prepare, words="append"):
 
 
 def lock(checks, wrapper):
-    """An append or an upgrade waits while another one has the folder, and says who that is; a question doesn't."""
+    """A command that changes the log waits while another one has the folder, and says who that is; a question
+    doesn't."""
     for words in CHANGES:
         waiting_for_folder(checks, wrapper, words)
 
@@ -403,7 +412,8 @@ def locked_log(checks):
 
 
 def locked_append(checks, wrapper):
-    """An append or an upgrade ends where another process has the log locked, and says which; a question doesn't."""
+    """A command that changes the log ends where another process has the log locked, and says which; a question
+    doesn't."""
     with tempfile.TemporaryDirectory() as folder:
         path = os.path.join(folder, LOG)
         with open(path, "wb") as file:
@@ -417,7 +427,8 @@ def locked_append(checks, wrapper):
                 checks.holds(f"{told!r} names the holder", holder in told and f"has {LOG} locked" in told)
             checks.same("a question over it", run(wrapper, "root", b"", folder)[1], statuses.DONE)
             checks.same("the log after it", held.read(), SET_LOG)
-        for words, line in [("append", b"known 0\n"), ("upgrade", b"upgraded 1\n")]:
+        known = b"known 0\n"
+        for words, line in [("append", known), ("follow", known + FOLLOWED), ("upgrade", b"upgraded 1\n")]:
             printed, status, _ = run(wrapper, words, SET_FILE, folder)
             checks.same(f"{words} over a log that was locked", (printed, status), (line, statuses.DONE))
 
@@ -461,7 +472,8 @@ def zeroed_log(checks, wrapper):
                 with open(path, "rb") as file:
                     checks.same("the log that was restored", file.read(), SET_LOG)
     for log in (CLOSED, CLOSED_HEAD, CLOSED_HEAD + CLOSED, CLOSED * 9):
-        for words, line in [("append", SET_LINE.encode()), ("upgrade", b"upgraded 0\n")]:
+        line = SET_LINE.encode()
+        for words, line in [("append", line), ("follow", line + FOLLOWED), ("upgrade", b"upgraded 0\n")]:
             with tempfile.TemporaryDirectory() as folder:
                 with open(os.path.join(folder, LOG), "wb") as file:
                     file.write(log)

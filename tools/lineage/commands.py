@@ -122,6 +122,10 @@ BAD_PROOF = [
     ("rejected CAUSE", "the first check of the proof that fails, and what it reports"),
     ("badinput long, badinput odd, badinput at P", "the input is too long, or no hex"),
 ]
+STORED = [
+    ("block N rows R status S root H", "block N is stored and wrote R rows; S are its transactions' statuses"),
+    ("known N", "the log has this block already"),
+]
 LOAD_LINE = "blocks N rows R root H lookups L entries E most M"
 COMMANDS = [
     Command(
@@ -134,13 +138,25 @@ COMMANDS = [
     Command(
         "append",
         "stores the blocks of a block file in chain.log; prints a line each",
+        [*STORED, BAD_FRAME, NO_LOG],
+        "./lineage append < examples/recall.blocks",
+        input=BLOCKS,
+        uses_log=True,
+        changes_log=True,
+        uses_scratch=True,
+    ),
+    Command(
+        "follow",
+        "stores blocks that come in any order; prints a line a turn",
         [
-            ("block N rows R status S root H", "block N is stored and wrote R rows; S are its transactions' statuses"),
-            ("known N", "the log has this block already"),
+            *STORED,
+            ("kept N", "block N waits for those before it"),
+            ("dropped I CAUSE", "the block of the frame with number I of the input, from 0, is not taken"),
+            ("follow blocks N waiting K", "the last line: the log has N blocks, and K wait for others"),
             BAD_FRAME,
             NO_LOG,
         ],
-        "./lineage append < examples/recall.blocks",
+        "./lineage follow < examples/recall.blocks",
         input=BLOCKS,
         uses_log=True,
         changes_log=True,

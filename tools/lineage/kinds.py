@@ -25,13 +25,17 @@ WHAT_TO_DO = {
     RANGE: ("a proof of a range in hex", "`./lineage range verify ROOT KEY FROM TO` reads it"),
     LIGHT: ("a light file", "`./lineage light` reads it, with proofs behind it"),
     BYTES_OF_PROOF: ("the bytes of a proof", "a proof is read in hex: xxd -p < PROOF | tr -d '\\n'"),
-    BLOCK_FILE: ("a block file", "`./lineage append` and `./lineage scan KIND KEY BLOCK` read it"),
+    BLOCK_FILE: (
+        "a block file",
+        "`./lineage append`, `./lineage follow` and `./lineage scan KIND KEY BLOCK` read it",
+    ),
     CONTRACT: ("a contract", "`./lineage fmt` reads it; to deploy it, name it in a draft, and pack that"),
 }
 # What a command reads, by its first word.
 READS = {
     "scan": BLOCK_FILE,
     "append": BLOCK_FILE,
+    "follow": BLOCK_FILE,
     "verify": PROOF,
     "expose": PROOF,
     "trace": TRACE,

@@ -40,7 +40,7 @@ SENTENCES = {
 }
 OTHER_CAUSES = (
     "a call of the disk failed, see `dmesg`;\n"
-    f"or another `append` or `upgrade` had {LOG_FILE} locked, and has ended since;\n"
+    f"or another `append`, `follow` or `upgrade` had {LOG_FILE} locked, and has ended since;\n"
     "or another program made, changed, moved or removed it meanwhile"
 )
 NO_LOG = "chain.log holds something else than a log"
@@ -71,9 +71,11 @@ CAUSES = {
     "budget": ("S", "the budgets of its calls come to {}; those of a block may come to 10,000,000"),
 }
 REFUSED = "a frame is refused; frames count from 0"
+# Those of the form of a frame, for which alone `follow` refuses one.
+FORM_CAUSES = {cause: CAUSES[cause] for cause in ("truncated", "length", "many")}
 # The same of the frames behind a light file, where a length means something else.
 LIGHT_LENGTH = "its length is {}, and a proof behind a light file has 1 to 1,048,576 bytes"
-LIGHT_CAUSES = {cause: CAUSES[cause] for cause in ("truncated", "length", "many")} | {"length": ("L", LIGHT_LENGTH)}
+LIGHT_CAUSES = FORM_CAUSES | {"length": ("L", LIGHT_LENGTH)}
 # Which check of a proof fails: what is printed after `rejected`, and what that means.
 REJECTED = {
     "malformed": "these are not the bytes of a proof: the first invalid field is at offset {}",
@@ -167,7 +169,7 @@ def usage_sentence(words):
 def beyond_sentence(words):
     command = commands.command_of(words)
     if command and command.uses_log and not os.path.exists(LOG_FILE):
-        return f"there is no log here: {os.getcwd()} has no {LOG_FILE}, which `append` makes"
+        return f"there is no log here: {os.getcwd()} has no {LOG_FILE}, which `append` or `follow` makes"
     if command and command.uses_log and is_zeroed():
         return zeroed_sentence()
     if command and command.uses_log and not any(log_frames()):
@@ -219,7 +221,7 @@ def zeroed_sentence():
     else:
         done = kinds.advice(first, kinds.LOG, "it") or "it is no log whose first byte alone was changed"
         done = f"{done}\nsee where it comes from, and move it away"
-    return "\n".join([f"{found}, and `append` and `upgrade` would write over it", done])
+    return "\n".join([f"{found}, and `append`, `follow` and `upgrade` would write over it", done])
 
 
 # ---- the disk
@@ -243,7 +245,7 @@ def lock_causes(words, writes):
         try:
             holder = locks.holder_of(os.fstat(log))
             if holder:
-                yield f"{holder} has {LOG_FILE} locked, as `append` and `upgrade` do as long as they run"
+                yield f"{holder} has {LOG_FILE} locked, as `append`, `follow` and `upgrade` do as long as they run"
             else:
                 # This takes no lock, and fails where there can be none.
                 fcntl.flock(log, fcntl.LOCK_UN)
@@ -297,7 +299,7 @@ def refused_sentence(program, words, start):
     """Why a frame was refused; where the input can't be read again, why frames are."""
     printed = b"" if start is None else refused_line(program, words, start)
     by_light = commands.command_of(words).checks_by_light
-    causes = LIGHT_CAUSES if by_light else CAUSES
+    causes = LIGHT_CAUSES if by_light else FORM_CAUSES if words[0] == "follow" else CAUSES
     refused = re.search(r"^refused frame \d+ (\w+) ?(\w*)\n\Z", printed.decode("ascii", "replace"), re.M)
     if not refused or refused[1] not in causes:
         lines = [f"{REFUSED}, and the cause was printed:"]

@@ -18,6 +18,6 @@ MEANINGS = {
     BAD_INPUT: "the input is not what the command reads",
     SCRATCH_FAULT: "the scratch file can't be made, written or read",
 }
-# The wrapper's own: the program wasn't built, or its proofs failed; `append` or `upgrade` would write over a log whose
-# first byte was zeroed; there is no proved program of the sources as they are; it can't be copied.
+# The wrapper's own: the program wasn't built, or its proofs failed; a command that changes the log would write over one
+# whose first byte was zeroed; there is no proved program of the sources as they are; it can't be copied.
 NOT_BUILT, ZEROED_LOG, NOT_PROVED, NOT_INSTALLED = range(70, 74)

@@ -1,5 +1,5 @@
-"""What `append` tells of transactions that failed, in words, as their lines come: one line on standard error for each
-status above 0.
+"""What `append` and `follow` tell of transactions that failed, in words, as their lines come: one line on standard
+error for each status above 0.
 
 Where standard output is a pipe or a terminal, the lines of the program are read here and handed on as they come;
 of a file what was written is read after the run, and the program writes it itself. What a transaction is, is read
@@ -160,7 +160,7 @@ class Log:
 
 
 class Words:
-    """Says of the lines of `append` what the statuses in them mean."""
+    """Says of the lines of `append` and `follow` what the statuses in them mean."""
 
     def __init__(self, program):
         self.program, self.log = program, Log()

@@ -18,7 +18,7 @@ use Rattle.cli_words.specs.declared.words.Command.{Command}
 use Rattle.cli_words.specs.declared.words.BlockVersion.{BlockVersion}
 use Rattle.cli_words.specs.declared.words.Edition.{Edition}
 use Rattle.cli_words.specs.declared.words.Command.TheVariants.{Scan, Fmt, Pack, Gen, Load, Append}
-use Rattle.cli_words.specs.declared.words.Command.TheVariants.{Upgrade}
+use Rattle.cli_words.specs.declared.words.Command.TheVariants.{Follow, Upgrade}
 use Rattle.cli_words.specs.declared.words.Command.TheVariants.{Root, Ask, Prove, Verify, Expose}
 use Rattle.cli_words.specs.declared.words.Command.TheVariants.{Trace, ProveTrace, VerifyTrace}
 use Rattle.cli_words.specs.declared.words.Command.TheVariants.{Range, ProveRange, VerifyRange}
@@ -32,9 +32,9 @@ use Rattle.cli_append.specs.cli_lines.declared.status.Status.TheVariants as stat
 use Rattle.cli_output.specs.Blocks.{draft_outcome}
 use Rattle.cli_output.specs.Output.{Output, output_of, edition_number, fmt_outcome}
 use Rattle.cli_output.specs.Output.{source_outcome, IsFmtOutput, Long, Source}
-use Rattle.cli_output.specs.Uses.{reads_input, uses_disk, uses_scratch, changes_log, use_of}
+use Rattle.cli_output.specs.Uses.{Use, reads_input, uses_disk, uses_scratch, changes_log, use_of}
 use Rattle.cli_output.specs.Uses.{ChainUse, LogLineage, is_asked, is_log_asked, is_log_changed}
-use Rattle.cli_output.specs.Uses.{keeps_bodies}
+use Rattle.cli_output.specs.Uses.{is_frames, is_whole, keeps_bodies}
 use Rattle.cli_output.specs.Running.{MayEnd, IsSilent, found_no_log}
 use Rattle.cli_output.specs.Scanning.{EndsAsked}
 use Rattle.cli_output.specs.Telling.{status_of_result, status_of_stop, status_of_found}
@@ -80,17 +80,21 @@ pack_ends version outcome found is =
     subst (λ (o : Outcome). MayEnd (status_of o.ending) (Some (Pack version)))
     (sym is) (draft_ends version found)
 
--- ---- `append`
+-- ---- `append`, and what uses the same
 
-pub answer_ends : (answer : Result AppendEnd RunStop)
-    → MayEnd (status_of_result (append_answer answer)) (Some Append)
-answer_ends (Ok appends.Whole) = refl
-answer_ends (Ok (appends.Refused frame cause)) = refl
-answer_ends (Err stops.Unreadable) = refl
-answer_ends (Err stops.Untold) = tt
-answer_ends (Err stops.DiskFault) = refl
-answer_ends (Err stops.ScratchFault) = refl
-answer_ends (Err stops.Memory) = tt
+pub answer_ends : (command : Command) → use_of (Some command) ≡ use_of (Some Append)
+    → (answer : Result AppendEnd RunStop)
+    → MayEnd (status_of_result (append_answer answer)) (Some command)
+answer_ends command uses (Ok appends.Whole) = refl
+answer_ends command uses (Ok (appends.Refused frame cause)) =
+    ap (λ (u : Use). is_frames u.input) uses
+answer_ends command uses (Err stops.Unreadable) =
+    ap (λ (u : Use). is_frames u.input || is_whole u.input) uses
+answer_ends command uses (Err stops.Untold) = tt
+answer_ends command uses (Err stops.DiskFault) =
+    ap (λ (u : Use). is_log_asked u.chain || is_log_changed u.chain) uses
+answer_ends command uses (Err stops.ScratchFault) = ap (λ (u : Use). keeps_bodies u.chain) uses
+answer_ends command uses (Err stops.Memory) = tt
 
 pub answer_has_log : (answer : Result AppendEnd RunStop)
     → found_no_log (status_of_result (append_answer answer)) ≡ false
@@ -180,16 +184,17 @@ no_log_found now disk told old new (Ok outcome) (Err stop) says none =
 no_log_found now disk told old new (Err stop) result says none = subst
     (λ (r : Result Ending RunStop). found_no_log (status_of_result r) ≡ true) says.stop_is none
 
--- `append` and `upgrade` change the log, and no other command does
-pub changed_by : (command : Command)
-    → (changes_log (Some command) ≡ false) ⊎ ((command ≡ Append) ⊎ (command ≡ Upgrade))
+-- `append`, `follow` and `upgrade` change the log, and no other command does
+changed_by : (command : Command) → (changes_log (Some command) ≡ false)
+    ⊎ ((command ≡ Append) ⊎ ((command ≡ Follow) ⊎ (command ≡ Upgrade)))
 changed_by (Scan query) = inl refl
 changed_by (Fmt edition) = inl refl
 changed_by (Pack version) = inl refl
 changed_by (Gen generation) = inl refl
 changed_by (Load generation) = inl refl
 changed_by Append = inr (inl refl)
-changed_by Upgrade = inr (inr refl)
+changed_by Follow = inr (inr (inl refl))
+changed_by Upgrade = inr (inr (inr refl))
 changed_by (Root at) = inl refl
 changed_by (Ask kind key at) = inl refl
 changed_by (Prove query root_at) = inl refl
@@ -204,38 +209,47 @@ changed_by (VerifyRange root key from to) = inl refl
 changed_by MakeLight = inl refl
 changed_by Light = inl refl
 
-pub others_keep : (command : Command) → (command ≡ Append → ⊥) → (command ≡ Upgrade → ⊥)
-    → changes_log (Some command) ≡ false
-others_keep command appends marks = elim (changed_by command) [
+pub others_keep : (command : Command) → (command ≡ Append → ⊥) → (command ≡ Follow → ⊥)
+    → (command ≡ Upgrade → ⊥) → changes_log (Some command) ≡ false
+others_keep command appends follows marks = elim (changed_by command) [
   | inl keeps ↦ keeps
   | inr other ↦ elim other [
     | inl is ↦ absurd (appends is)
-    | inr is ↦ absurd (marks is)
+    | inr rest ↦ elim rest [
+      | inl is ↦ absurd (follows is)
+      | inr is ↦ absurd (marks is)
+    ]
   ]
 ]
 
-pub marks_log : (command : Command) → changes_log (Some command) ≡ true → (command ≡ Append → ⊥)
-    → command ≡ Upgrade
-marks_log command changes appends = elim (changed_by command) [
+-- what holds for each of the three holds for a command that changes the log
+pub for_changes : (P : Command → Type 0) → P Append → P Follow → P Upgrade → (command : Command)
+    → changes_log (Some command) ≡ true → P command
+for_changes P appends follows marks command changes = elim (changed_by command) [
   | inl keeps ↦ absurd (cc (changes, keeps))
   | inr other ↦ elim other [
-    | inl is ↦ absurd (appends is)
-    | inr is ↦ is
+    | inl is ↦ subst P (sym is) appends
+    | inr rest ↦ elim rest [
+      | inl is ↦ subst P (sym is) follows
+      | inr is ↦ subst P (sym is) marks
+    ]
   ]
 ]
 
--- both use the disk and the scratch device
+-- so one that takes no frames marks the log
+abbrev MarksElse : Command → Type 0
+MarksElse command = (command ≡ Append → ⊥) → (command ≡ Follow → ⊥) → command ≡ Upgrade
+
+pub marks_log : (command : Command) → changes_log (Some command) ≡ true → MarksElse command
+marks_log = for_changes MarksElse (λ appends follows. absurd (appends refl))
+    (λ appends follows. absurd (follows refl)) (λ appends follows. refl)
+
+-- they use the disk and the scratch device
 abbrev UsesBoth : Command → Type 0
 UsesBoth command = (uses_disk (Some command) ≡ true) × (uses_scratch (Some command) ≡ true)
 
 pub uses_both : (command : Command) → changes_log (Some command) ≡ true → UsesBoth command
-uses_both command changes = elim (changed_by command) [
-  | inl keeps ↦ absurd (cc (changes, keeps))
-  | inr other ↦ elim other [
-    | inl is ↦ subst UsesBoth (sym is) (refl, refl)
-    | inr is ↦ subst UsesBoth (sym is) (refl, refl)
-  ]
-]
+uses_both = for_changes UsesBoth (refl, refl) (refl, refl) (refl, refl)
 
 -- a load that words can spell is of a number of blocks that may be made
 pub is_count : (command : Command) (generation : Generation) → command ≡ Load generation

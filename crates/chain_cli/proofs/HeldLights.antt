@@ -15,7 +15,7 @@ use Rattle.block_codec.specs.Placement.{digest_of}
 use Rattle.block_codec.specs.declared.limits.TheConstants.{MAX_FRAMES}
 use Rattle.block_codec.proofs.FrameBytes.{frame_bytes}
 use Rattle.block_codec.specs.declared.block.Block.{Block}
-use Rattle.cli_proofs.specs.chain_exec.Replay.{replay}
+use Rattle.cli_append.specs.chain_exec.Replay.{replay}
 use Rattle.cli_output.specs.light_soundness.Soundness.{AnswersByFile}
 use Rattle.cli_output.specs.light_soundness.light_client.Checking.{LightAnswer}
 use Rattle.cli_output.specs.light_soundness.light_client.Checking.{light_verdict}

@@ -2,13 +2,13 @@
 -- root, unless texts clash.
 use Rattle.std.proofs.Common.{◌≡◌, inl, inr, ℕ, List, map, Result, Ok, Err, refl, ap}
 use Rattle.lc_base.specs.declared.row.Version.{Version}
-use Rattle.range_commands.specs.range_checks.declared.range_proof.RangeProof.{RangeProof}
-use Rattle.range_commands.specs.range_checks.declared.reject.RangeReject.{RangeReject}
-use Rattle.range_commands.specs.range_checks.Checks.{range_verdict}
-use Rattle.range_commands.specs.range_checks.RangeTexts.{IsRangeProof}
-use Rattle.range_commands.specs.declared.verification.RangeVerification.{RangeVerification}
-use Rattle.range_commands.specs.Verifying.{of_range_verdict, IsRangeVerification, OddDigits}
-use Rattle.range_commands.specs.Verifying.{NoDigit, NoRange, Judged}
+use Rattle.cli_output.specs.range_commands.range_checks.declared.range_proof.RangeProof.{RangeProof}
+use Rattle.cli_output.specs.range_commands.range_checks.declared.reject.RangeReject.{RangeReject}
+use Rattle.cli_output.specs.range_commands.range_checks.Checks.{range_verdict}
+use Rattle.cli_output.specs.range_commands.range_checks.RangeTexts.{IsRangeProof}
+use Rattle.cli_output.specs.range_commands.declared.verification.RangeVerification.{RangeVerification}
+use Rattle.cli_output.specs.range_commands.Verifying.{of_range_verdict, IsRangeVerification}
+use Rattle.cli_output.specs.range_commands.Verifying.{OddDigits, NoDigit, NoRange, Judged}
 use Rattle.cli_output.proofs.replay_soundness.Ranged.{accepted_ranges_are_of_replays}
 use Rattle.crash_promises.specs.Promises.{plain}
 use Rattle.cli_append.specs.cli_lines.Lines.{range_lines}

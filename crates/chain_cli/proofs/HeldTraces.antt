@@ -6,9 +6,9 @@ use Rattle.trace_checks.specs.declared.trace_proof.TraceProof.{TraceProof}
 use Rattle.trace_checks.specs.declared.reject.TraceReject.{TraceReject}
 use Rattle.trace_checks.specs.Checks.{trace_verdict}
 use Rattle.trace_checks.specs.TraceTexts.{IsTraceProof}
-use Rattle.trace_commands.specs.declared.verification.TraceVerification.{TraceVerification}
-use Rattle.trace_commands.specs.Verifying.{of_trace_verdict, IsTraceVerification, OddDigits}
-use Rattle.trace_commands.specs.Verifying.{NoDigit, NoTrace, Judged}
+use Rattle.cli_output.specs.trace_commands.declared.verification.TraceVerification.{TraceVerification}
+use Rattle.cli_output.specs.trace_commands.Verifying.{of_trace_verdict, IsTraceVerification}
+use Rattle.cli_output.specs.trace_commands.Verifying.{OddDigits, NoDigit, NoTrace, Judged}
 use Rattle.cli_output.proofs.replay_soundness.Traced.{accepted_traces_are_of_replays}
 use Rattle.crash_promises.specs.Promises.{plain}
 use Rattle.cli_append.specs.cli_lines.Lines.{trace_lines}

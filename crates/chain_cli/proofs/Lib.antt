@@ -4,6 +4,7 @@ pub mod Generated
 pub mod OneOutput
 pub mod Formatted
 pub mod Runs
+pub mod LogRuns
 pub mod Asked
 pub mod Ends
 pub mod Moments
@@ -12,3 +13,4 @@ pub mod HeldTraces
 pub mod HeldRanges
 pub mod HeldLights
 pub mod Lighted
+pub mod Followed

@@ -12,11 +12,11 @@ use Rattle.block_codec.specs.Reading.{block_in}
 use Rattle.block_codec.specs.Placement.{digest_of}
 use Rattle.block_codec.specs.declared.block.Block.{Block}
 use Rattle.block_log.specs.Standing.{standing}
-use Rattle.cli_proofs.specs.Exposing.{ledger_kept}
-use Rattle.cli_proofs.specs.chain_exec.Compiled.{compiled_in}
-use Rattle.cli_proofs.specs.chain_exec.Effect.{History}
-use Rattle.cli_proofs.specs.chain_exec.Replay.{replay}
-use Rattle.cli_proofs.specs.merkle_dag.Ledger.{Ledger}
+use Rattle.cli_traces.specs.cli_proofs.Exposing.{ledger_kept}
+use Rattle.cli_append.specs.chain_exec.Compiled.{compiled_in}
+use Rattle.cli_append.specs.chain_exec.Effect.{History}
+use Rattle.cli_append.specs.chain_exec.Replay.{replay}
+use Rattle.cli_traces.specs.cli_proofs.merkle_dag.Ledger.{Ledger}
 use Rattle.chain_replay.specs.Chain.{ChainState, StandsFor}
 use Rattle.cli_append.specs.recovery.Node.{IsChainStored, next_in_chain}
 use Rattle.cli_append.specs.declared.ending.RunStop.{RunStop}

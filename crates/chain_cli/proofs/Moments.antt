@@ -88,8 +88,8 @@ module _ {D : Type 0} (now : D → ℕ) (disk : D → ℕ → Option DiskState)
       (stays_any next old mid content settled here begins)
       (weaker now disk mid new P (MayLeaveAny next content) keeps leads)
 
-  -- `append`, over the node that it started with
-  pub append_any : (old mid new : D) (node : NodeState) → IsSettled (disk old (now old))
+  -- `append` and `follow`, over the node that they started with
+  pub taken_any : (old mid new : D) (node : NodeState) → IsSettled (disk old (now old))
       → Stays now disk old mid
       → ((content : List ℕ) → content_of (disk old (now old)) ≡ Some content
       → IsNodeStarted (disk mid (now mid)) (standing next_in_chain content) (Ok node))
@@ -98,7 +98,7 @@ module _ {D : Type 0} (now : D → ℕ) (disk : D → ℕ → Option DiskState)
       (GoesFrom (logged_in node.log blocks)))
       → (content : List ℕ) → content_of (disk old (now old)) ≡ Some content → Keeps now disk old new
       (MayLeaveAny next_in_chain content)
-  append_any old mid new node settled begins started goes content here =
+  taken_any old mid new node settled begins started goes content here =
       let s = started content here in
       let logged : Logged = logged_in node.log s.0.blocks in
       let stands = started_chain node (disk mid (now mid)) (standing next_in_chain content) s in
@@ -108,13 +108,13 @@ module _ {D : Type 0} (now : D → ℕ) (disk : D → ℕ → Option DiskState)
       (goes s.0.blocks s.2.0 still_known) (longer_any next_in_chain content logged stands)
 
   -- the same by the log alone, over any node that is ready
-  pub append_log : (old mid new : D) (log : LogState) → IsSettled (disk old (now old))
+  pub taken_log : (old mid new : D) (log : LogState) → IsSettled (disk old (now old))
       → Stays now disk old mid → Rests (disk mid (now mid)) (Agrees log)
       → ((content : List ℕ) → content_of (disk mid (now mid)) ≡ Some content
       → Keeps now disk mid new (Grows next_in_log content))
       → (content : List ℕ) → content_of (disk old (now old)) ≡ Some content → Keeps now disk old new
       (MayLeaveAny next_in_log content)
-  append_log old mid new log settled begins rests goes content here =
+  taken_log old mid new log settled begins rests goes content here =
       let there : content_of (disk mid (now mid)) ≡ Some content = ap content_of begins.last
       ∙ here in
       let stands = log_stands log (disk mid (now mid)) content rests there in

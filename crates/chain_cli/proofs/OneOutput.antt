@@ -12,7 +12,8 @@ use Rattle.block_codec.specs.declared.placement.Placement.{Placement}
 use Rattle.block_log.specs.declared.layout.TheConstants.{OPEN_GATE, FIRST_GATE, MAX_RECORDS}
 use Rattle.block_log.specs.declared.layout.Stored.{Stored}
 use Rattle.block_log.specs.Standing.{Standing, Blank, NotALog, Damaged, Holds, Placer, next_decoded}
-use Rattle.block_log.specs.Standing.{Logged, nothing_logged, next_block, blocks_in, after_record, is_mark, is_sized, record_at, records_at}
+use Rattle.block_log.specs.Standing.{Logged, nothing_logged, next_block, blocks_in, after_record}
+use Rattle.block_log.specs.Standing.{is_mark, is_sized, record_at, records_at}
 use Rattle.block_log.specs.Standing.{is_log, is_blank, standing}
 use Rattle.chain_replay.specs.Chain.{placement_in, placement_by_mark}
 use Rattle.block_codec.specs.declared.block.Block.{Block}
@@ -25,12 +26,12 @@ use Rattle.contract_parse.specs.Syntax.{Outcome as SourceOutcome, IsOutcome}
 use Rattle.contract_parse.proofs.Outcomes.{some_outcome, one_outcome}
 use Rattle.lc_base.specs.declared.answer.Query.{Query}
 use Rattle.block_codec.proofs.FrameBytes.{frame_bytes}
-use Rattle.cli_proofs.specs.proof_commands.Verifying.{verification}
-use Rattle.cli_proofs.specs.proof_commands.declared.verification.Verification.{Verification}
-use Rattle.cli_proofs.proofs.proof_commands.Verified.{is_verification, one_answer}
+use Rattle.cli_output.specs.proof_commands.Verifying.{verification}
+use Rattle.cli_output.specs.proof_commands.declared.verification.Verification.{Verification}
+use Rattle.cli_output.proofs.proof_commands.Verified.{is_verification, one_answer}
 use Rattle.cli_append.specs.cli_lines.declared.whole.TheConstants.{MAX_WHOLE_INPUT_BYTES}
-use Rattle.cli_proofs.specs.chain_exec.Compiled.{Compiler, compiled_in}
-use Rattle.cli_proofs.specs.chain_exec.Laws.{OneCompiler}
+use Rattle.cli_append.specs.chain_exec.Compiled.{Compiler, compiled_in}
+use Rattle.cli_append.specs.chain_exec.Laws.{OneCompiler}
 use Rattle.chain_replay.proofs.chain_exec.TheLaws.{one_compiler}
 use Rattle.chain_replay.specs.Judging.{Taken, judgement_of, added_by}
 use Rattle.chain_replay.specs.declared.refusal.Refusal.{Refusal}
@@ -38,28 +39,31 @@ use Rattle.chain_input.specs.Folding.{Fold, taken_before, fold_after_frame, fold
 use Rattle.chain_input.specs.Folding.{fold_input}
 use Rattle.cli_output.specs.Output.{make_light_output, light_output}
 use Rattle.cli_output.specs.Output.{Output, output_of, scan_output, usage_output, long_output}
-use Rattle.cli_output.specs.Output.{pack_output, version_number, gen_output, load_output, append_output, append_to, upgrade_output}
+use Rattle.cli_output.specs.Output.{pack_output, version_number, gen_output, load_output}
+use Rattle.cli_output.specs.Output.{append_output, append_to, follow_to, upgrade_output}
 use Rattle.cli_output.specs.Output.{root_output, ask_output, prove_output, on_log, next_by}
 use Rattle.cli_output.specs.Output.{trace_output, prove_trace_output, IsVerifyTraceOutput}
 use Rattle.cli_output.specs.Output.{LongTrace, VerifiedTrace}
 use Rattle.cli_output.specs.Traces.{trace_verification_outcome}
-use Rattle.trace_commands.specs.Verifying.{trace_verification}
-use Rattle.trace_commands.specs.declared.verification.TraceVerification.{TraceVerification}
-use Rattle.trace_commands.proofs.Traced.{is_trace_verification, one_told}
+use Rattle.cli_output.specs.trace_commands.Verifying.{trace_verification}
+use Rattle.cli_output.specs.trace_commands.declared.verification.TraceVerification.{TraceVerification}
+use Rattle.cli_output.proofs.trace_commands.Traced.{is_trace_verification, one_told}
 use Rattle.cli_output.specs.Output.{range_output, prove_range_output, IsVerifyRangeOutput}
 use Rattle.cli_output.specs.Output.{LongRange, VerifiedRange}
 use Rattle.cli_output.specs.Ranges.{range_verification_outcome}
-use Rattle.range_commands.specs.Verifying.{range_verification}
-use Rattle.range_commands.specs.declared.verification.RangeVerification.{RangeVerification}
-use Rattle.range_commands.proofs.Ranged.{is_range_verification, one_range_told}
-use Rattle.cli_output.specs.Output.{edition_number, source_outcome, IsFmtOutput, Long, Source, IsVerifyOutput}
+use Rattle.cli_output.specs.range_commands.Verifying.{range_verification}
+use Rattle.cli_output.specs.range_commands.declared.verification.RangeVerification.{RangeVerification}
+use Rattle.cli_output.proofs.range_commands.Ranged.{is_range_verification, one_range_told}
+use Rattle.cli_output.specs.Output.{edition_number, source_outcome, IsFmtOutput, Long, Source}
+use Rattle.cli_output.specs.Output.{IsVerifyOutput}
 use Rattle.cli_output.specs.Output.{LongProof, Verified, IsExposeOutput, IsOnLog, Wants, IsWanted}
 use Rattle.cli_output.specs.Output.{IsOneOutput}
 use Rattle.cli_output.specs.Proofs.{verification_outcome}
 use Rattle.cli_output.proofs.Exposed.{some_expose, one_expose}
 use Rattle.cli_output.proofs.Meets.{some_on_log, one_on_log}
 use Rattle.cli_words.specs.declared.words.Command.{Command}
-use Rattle.cli_words.specs.declared.words.Command.TheVariants.{Scan, Fmt, Pack, Gen, Load, Append, Upgrade}
+use Rattle.cli_words.specs.declared.words.Command.TheVariants.{Scan, Fmt, Pack, Gen, Load, Append}
+use Rattle.cli_words.specs.declared.words.Command.TheVariants.{Follow, Upgrade}
 use Rattle.cli_words.specs.declared.words.Command.TheVariants.{Root, Ask, Prove, Verify, Expose}
 use Rattle.cli_words.specs.declared.words.Command.TheVariants.{Trace, ProveTrace, VerifyTrace}
 use Rattle.cli_words.specs.declared.words.Command.TheVariants.{Range, ProveRange, VerifyRange}
@@ -174,12 +178,20 @@ some_verify_range root key from to input =
           )
     ]
 
--- the output of a question over the blocks of the log, by a decoder and a compiler
-abbrev asked_by : Decoder → Compiler → (Compiler → List Block → Output) → List ℕ → List ℕ → Output
-asked_by read compile wanted input content = on_log (λ logged. wanted compile logged.blocks) input
+-- the output of a command over the log, by a decoder and a compiler
+abbrev over_by : Decoder → Compiler → (Compiler → Logged → Output) → List ℕ → List ℕ → Output
+over_by read compile over input content = on_log (over compile) input
     (standing (next_by read compile) content)
 
+-- that of a question over its blocks
+abbrev asked_by : Decoder → Compiler → (Compiler → List Block → Output) → List ℕ → List ℕ → Output
+asked_by read compile wanted input content =
+    over_by read compile (λ c logged. wanted c logged.blocks) input content
+
 -- the same by those of the program
+abbrev over_log : (Compiler → Logged → Output) → List ℕ → List ℕ → Output
+over_log over input content = over_by block_in compiled_in over input content
+
 abbrev asked : (Compiler → List Block → Output) → List ℕ → List ℕ → Output
 asked wanted input content = asked_by block_in compiled_in wanted input content
 
@@ -192,8 +204,11 @@ some_output (Some (Fmt edition)) input content = some_fmt (edition_number editio
 some_output (Some (Pack version)) input content = (pack_output (version_number version) input, refl)
 some_output (Some (Gen generation)) input content = (gen_output generation input, refl)
 some_output (Some (Load generation)) input content = (load_output compiled_in generation input, refl)
-some_output (Some Append) input content = (on_log (append_to block_in compiled_in input) input (standing (next_by block_in compiled_in) content), refl)
-some_output (Some Upgrade) input content = (on_log (upgrade_output input) input (standing (next_by block_in compiled_in) content), refl)
+some_output (Some Append) input content =
+    (over_log (λ c. append_to block_in c input) input content, refl)
+some_output (Some Follow) input content = (over_log (λ c. follow_to c input) input content, refl)
+some_output (Some Upgrade) input content =
+    (over_log (λ c. upgrade_output input) input content, refl)
 some_output (Some (Root at)) input content =
     (asked (λ c blocks. root_output c at input blocks) input content, refl)
 some_output (Some (Ask kind key at)) input content =
@@ -280,16 +295,23 @@ only_verify_range root key from to input _ _ (VerifiedRange _ told is) (Verified
     ap (λ (t : RangeVerification). output_of (range_verification_outcome t) [])
     (one_range_told root key from to input told other is i)
 
--- by any right decoder and compiler, the output of a question over the blocks of the log is the
--- same
+-- by any right decoder and compiler, the output of a command over the log is the same
+same_over : (read : Decoder) (compile : Compiler) → IsDecoder read → compile ≡ compiled_in
+    → (over : Compiler → Logged → Output) (input content : List ℕ) → IsBytes content
+    → (other : Output) → other ≡ over_by read compile over input content
+    → other ≡ over_log over input content
+same_over read compile is_read compile_is over input content whole other is =
+    is ∙ ap (λ (c : Compiler). over_by read c over input content) compile_is
+    ∙ ap (on_log (over compiled_in) input)
+    (standing_same (placement_by_mark compiled_in) read block_in is_read decided content whole)
+
+-- and so is that of a question over its blocks
 same_asked : (read : Decoder) (compile : Compiler) → IsDecoder read → compile ≡ compiled_in
     → (wanted : Compiler → List Block → Output) (input content : List ℕ) → IsBytes content
     → (other : Output) → other ≡ asked_by read compile wanted input content
     → other ≡ asked wanted input content
-same_asked read compile is_read compile_is wanted input content whole other is =
-    is ∙ ap (λ (c : Compiler). asked_by read c wanted input content) compile_is
-    ∙ ap (on_log (λ logged. wanted compiled_in logged.blocks) input)
-    (standing_same (placement_by_mark compiled_in) read block_in is_read decided content whole)
+same_asked read compile is_read compile_is wanted =
+    same_over read compile is_read compile_is (λ c logged. wanted c logged.blocks)
 
 -- by any right decoder, the output for bytes is the same
 same_output : (read : Decoder) (compile : Compiler) → IsDecoder read → compile ≡ compiled_in
@@ -306,13 +328,15 @@ same_output read compile is_read compile_is (Some (Pack version)) input content 
 same_output read compile is_read compile_is (Some (Gen generation)) input content fits whole other is = is
 same_output read compile is_read compile_is (Some (Load generation)) input content fits whole other is = is ∙ ap (λ (c : Compiler). load_output c generation input) compile_is
 same_output read compile is_read compile_is (Some Append) input content fits whole other is =
-    is ∙ ap (λ (c : Compiler). on_log (append_to read c input) input (standing (next_by read c) content)) compile_is
-    ∙ ap (on_log (append_to read compiled_in input) input) (standing_same (placement_by_mark compiled_in) read block_in is_read decided content whole)
+    same_over read compile is_read compile_is (λ c. append_to read c input) input content whole
+    other is
     ∙ on_log_same (append_to read compiled_in input) (append_to block_in compiled_in input) input
     (λ logged. ap (append_output compiled_in logged.blocks) (fold_same (placement_by_mark compiled_in logged.marked) read block_in is_read decided (MAX_FRAMES + 1) logged.blocks input fits)) (standing (next_by block_in compiled_in) content)
+same_output read compile is_read compile_is (Some Follow) input content fits whole other is =
+    same_over read compile is_read compile_is (λ c. follow_to c input) input content whole other is
 same_output read compile is_read compile_is (Some Upgrade) input content fits whole other is =
-    is ∙ ap (λ (c : Compiler). on_log (upgrade_output input) input (standing (next_by read c) content)) compile_is
-    ∙ ap (on_log (upgrade_output input) input) (standing_same (placement_by_mark compiled_in) read block_in is_read decided content whole)
+    same_over read compile is_read compile_is (λ c. upgrade_output input) input content whole other
+    is
 same_output read compile is_read compile_is (Some (Root at)) input content fits whole other is =
     same_asked read compile is_read compile_is (λ c blocks. root_output c at input blocks) input
     content whole other is

@@ -1,36 +1,21 @@
 -- What is found for each command, and whole runs: they have the output of their command.
-use Rattle.std.proofs.Common.{◌≡◌, ℕ, ◌+◌, Bool, true, false, cond, List, [], ◌∷◌, map}
-use Rattle.std.proofs.Common.{inl, inr, Option, Some, None, Result, Ok, Err, refl, sym, ap, ◌∙◌, subst}
+use Rattle.std.proofs.Common.{◌≡◌, ℕ, Bool, true, false, cond, List, [], ◌∷◌, map, Option, Some}
+use Rattle.std.proofs.Common.{None, Result, Ok, Err, refl, sym, ap, ◌∙◌, subst}
 use Rattle.std.specs.Prelude.{IfOk, IfSome, is_ok}
-use Rattle.std.specs.Option.{is_some}
 use Rattle.lc_io.specs.Disk.{DiskState, Stays}
 use Rattle.lc_io.specs.Outside.{Tell}
-use Rattle.disk_model.specs.Disk.{IsSettled, Keeps, Rests, content_of}
-use Rattle.disk_model.proofs.Moments.{then_keeps, weaker, stays_on}
+use Rattle.disk_model.specs.Disk.{IsSettled, Rests}
+use Rattle.disk_model.proofs.Moments.{stays_on}
 use Rattle.lc_base.specs.declared.answer.Query.{Query}
 use Rattle.lc_base.specs.declared.digest.Digest.{Digest}
 use Rattle.block_codec.specs.Reading.{block_in}
 use Rattle.block_codec.specs.declared.block.Block.{Block}
-use Rattle.block_codec.specs.declared.limits.TheConstants.{MAX_FRAMES}
-use Rattle.block_log.specs.Log.{IsOldOrMarked}
-use Rattle.block_log.specs.Standing.{Standing, Blank, NotALog, Damaged, Holds, Logged, blocks_in}
-use Rattle.block_log.specs.Standing.{nothing_logged, logged_of, with_blocks, with_mark, chain_of}
 use Rattle.block_log.specs.Standing.{standing}
-use Rattle.block_log.proofs.Resting.{rests_weaker}
-use Rattle.cli_proofs.specs.chain_exec.Compiled.{compiled_in}
-use Rattle.chain_replay.specs.Chain.{ChainState, StandsFor, placement_in, placement_by_mark}
-use Rattle.chain_replay.specs.Judging.{added_by_all}
-use Rattle.chain_input.specs.Folding.{Fold, FoldEnd, fold_from, fold_input}
-use Rattle.cli_append.specs.recovery.Node.{NodeState, IsNodeOf, IsNodeStarted, IsNoStart}
-use Rattle.cli_append.specs.recovery.Node.{next_in_chain, logged_in}
-use Rattle.cli_append.specs.recovery.declared.errors.StartError.{StartError}
-use Rattle.crash_promises.specs.Promises.{plain, NoChange, Appends, Marks, Telling, IsPartly}
-use Rattle.crash_promises.specs.Promises.{MayLeave, IsChanged}
-use Rattle.crash_promises.proofs.Tellings.{told_since}
-use Rattle.cli_append.specs.Appending.{AppendsAll, HasEnded as Appended, IsKnown, fold_lines}
-use Rattle.cli_append.specs.Appending.{fold_end, upgrade_change, Upgrades}
-use Rattle.cli_append.proofs.Frames.{with_none}
-use Rattle.cli_append.specs.declared.ending.AppendEnd.{AppendEnd}
+use Rattle.cli_append.specs.chain_exec.Compiled.{compiled_in}
+use Rattle.chain_replay.specs.Chain.{ChainState, StandsFor, placement_in}
+use Rattle.chain_input.specs.Folding.{fold_input}
+use Rattle.cli_append.specs.recovery.Node.{next_in_chain}
+use Rattle.crash_promises.specs.Promises.{plain, NoChange, Telling}
 use Rattle.cli_append.specs.declared.ending.RunStop.{RunStop}
 use Rattle.chain_gen.specs.Generator.{blocks_of_seed}
 use Rattle.cli_words.specs.declared.words.Generation.{Generation}
@@ -38,113 +23,40 @@ use Rattle.cli_words.specs.declared.words.Command.{Command}
 use Rattle.cli_words.specs.declared.words.BlockVersion.{BlockVersion}
 use Rattle.cli_words.specs.declared.words.Edition.{Edition}
 use Rattle.cli_words.specs.declared.words.Command.TheVariants.{Scan, Fmt, Pack, Gen, Load, Append}
-use Rattle.cli_words.specs.declared.words.Command.TheVariants.{Upgrade}
-use Rattle.cli_words.specs.declared.words.Command.TheVariants.{Root, Ask, Prove, Verify, Expose}
-use Rattle.cli_words.specs.declared.words.Command.TheVariants.{Trace, ProveTrace, VerifyTrace}
-use Rattle.cli_words.specs.declared.words.Command.TheVariants.{Range, ProveRange, VerifyRange}
-use Rattle.cli_words.specs.declared.words.Command.TheVariants.{MakeLight, Light}
+use Rattle.cli_words.specs.declared.words.Command.TheVariants.{Follow, Upgrade, Root, Ask, Prove}
+use Rattle.cli_words.specs.declared.words.Command.TheVariants.{Verify, Expose, Trace, ProveTrace}
+use Rattle.cli_words.specs.declared.words.Command.TheVariants.{VerifyTrace, Range, ProveRange}
+use Rattle.cli_words.specs.declared.words.Command.TheVariants.{VerifyRange, MakeLight, Light}
 use Rattle.cli_append.specs.cli_lines.Lines.{usage_line}
-use Rattle.cli_append.specs.cli_lines.Outcome.{status_of, outcome_with}
+use Rattle.cli_append.specs.cli_lines.Outcome.{outcome_with}
 use Rattle.cli_append.specs.cli_lines.declared.outcome.Outcome.{Outcome}
 use Rattle.cli_append.specs.cli_lines.declared.outcome.Ending.{Ending}
 use Rattle.cli_append.specs.cli_lines.declared.outcome.Ending.TheVariants as endings
 use Rattle.cli_append.specs.cli_lines.declared.status.Status.{Status}
 use Rattle.cli_output.specs.Blocks.{frame}
 use Rattle.cli_output.specs.Output.{Output, output_of, usage_output, scan_output, pack_output}
-use Rattle.cli_output.specs.Output.{gen_output, load_outcome, append_output, append_to}
-use Rattle.cli_output.specs.Output.{upgrade_output}
-use Rattle.cli_output.specs.Output.{on_log, fold_ending}
-use Rattle.cli_output.specs.Output.{answer_outcome, root_outcome, prove_outcome, at_or_last}
-use Rattle.cli_output.specs.Output.{trace_outcome, prove_trace_outcome, range_outcome}
-use Rattle.cli_output.specs.Output.{make_light_outcome}
-use Rattle.cli_output.specs.Output.{prove_range_outcome, IsVerifyTraceOutput, LongTrace}
-use Rattle.cli_output.specs.Output.{VerifiedTrace, IsVerifyRangeOutput, LongRange, VerifiedRange}
-use Rattle.cli_output.specs.Output.{edition_number, version_number, IsFmtOutput, Long, Source}
-use Rattle.cli_output.specs.Output.{IsVerifyOutput}
-use Rattle.cli_output.specs.Output.{LongProof, Verified}
-use Rattle.cli_output.specs.Output.{IsExposeOutput, Wants}
+use Rattle.cli_output.specs.Output.{gen_output, load_outcome, on_log, answer_outcome, root_outcome}
+use Rattle.cli_output.specs.Output.{prove_outcome, at_or_last, trace_outcome, prove_trace_outcome}
+use Rattle.cli_output.specs.Output.{range_outcome, make_light_outcome, prove_range_outcome}
+use Rattle.cli_output.specs.Output.{IsVerifyTraceOutput, LongTrace, VerifiedTrace}
+use Rattle.cli_output.specs.Output.{IsVerifyRangeOutput, LongRange, VerifiedRange, edition_number}
+use Rattle.cli_output.specs.Output.{version_number, IsFmtOutput, Long, Source, IsVerifyOutput}
+use Rattle.cli_output.specs.Output.{LongProof, Verified, IsExposeOutput, Wants}
 use Rattle.cli_output.specs.Scanning.{IsVerifyTraceOutcome, IsVerifyRangeOutcome}
-use Rattle.cli_output.specs.Uses.{changes_log, reads_input, uses_disk, uses_scratch}
-use Rattle.cli_output.specs.Running.{came_to_end, leaves, is_no_change, Meets, IsGiven, IsRun}
+use Rattle.cli_output.specs.Uses.{changes_log, uses_disk}
+use Rattle.cli_output.specs.Running.{leaves, Meets, IsGiven, IsRun}
 use Rattle.cli_output.specs.Scanning.{GivesAny, GivesFrom, GivesOutput, IsFmtOutcome}
-use Rattle.cli_output.specs.Scanning.{IsVerifyOutcome}
-use Rattle.cli_output.specs.Scanning.{IsExposeOutcome, IsFoundFor, IsFoundOver}
-use Rattle.cli_output.specs.Telling.{status_of_result, status_of_usage, append_answer}
-use Rattle.cli_output.specs.Telling.{upgrade_answer, Tells, stop_of_outcome, start_outcome}
+use Rattle.cli_output.specs.Scanning.{IsVerifyOutcome, IsExposeOutcome, IsFoundFor, IsFoundOver}
+use Rattle.cli_output.specs.Telling.{status_of_result, status_of_usage, Tells, stop_of_outcome}
 use Rattle.cli_output.specs.declared.stop.OutcomeStop.{OutcomeStop}
 use Rattle.chain_cli.proofs.OneOutput.{some_output}
-use Rattle.chain_cli.proofs.Ends.{changed_by}
-use Rattle.chain_cli.proofs.Moments.{started_chain}
 use Rattle.cli_output.proofs.Exposed.{expose_no_change}
-use Rattle.cli_output.proofs.Found.{left_given, read_found, unread_found}
-use Rattle.cli_output.proofs.Meets.{ending_ends, stop_stops, told_input, left_same, left_read}
-use Rattle.cli_output.proofs.Meets.{rests_given, on_log_blocks, on_log_is, is_on_no_log}
-use Rattle.cli_output.proofs.Meets.{on_log_no_change, is_on_log_no_change, same_may_leave}
-use Rattle.cli_output.proofs.Meets.{of_blocks, content_stays}
+use Rattle.cli_output.proofs.Found.{read_found, unread_found}
+use Rattle.cli_output.proofs.Meets.{stop_stops, left_same, rests_given, on_log_no_change}
+use Rattle.cli_output.proofs.Meets.{is_on_log_no_change, same_may_leave, of_blocks, content_stays}
 use Rattle.cli_output.proofs.Meets.{quiet_images, said_met, silent_met, says_since}
 
--- ---- what is known
-
-told_disk : (state : Option DiskState) (content : List ℕ) → IsGiven true (content_of state) content
-    → IsKnown state
-told_disk None content given = absurd given
-told_disk (Some s) content given = refl
-
 -- ---- changes
-
-log_may_leave : (content : List ℕ) (logged : Logged) (added : List Block) (c : List ℕ)
-    → chain_of next_in_chain content ≡ Some logged → c ≡ content
-    → MayLeave next_in_chain content (Appends added) c
-log_may_leave content logged added c is same =
-    (logged, is, (0, ap (chain_of next_in_chain) same ∙ is ∙ ap Some (sym (with_none logged))))
-
--- the same where the log is marked
-mark_may_leave : (content : List ℕ) (logged : Logged) (marked : Bool) (c : List ℕ)
-    → chain_of next_in_chain content ≡ Some logged → c ≡ content
-    → MayLeave next_in_chain content (upgrade_change marked) c
-mark_may_leave content logged true c is same = same
-mark_may_leave content logged false c is same =
-    (logged, is, inl (ap (chain_of next_in_chain) same ∙ is))
-
--- a command over the log may leave the content, if it may over each chain
-over_may_leave : (over : Logged → Output) (content input : List ℕ)
-    → ((logged : Logged) (c : List ℕ) → chain_of next_in_chain content ≡ Some logged → c ≡ content
-    → MayLeave next_in_chain content (over logged).change c)
-    → (stands : Standing) → standing next_in_chain content ≡ stands → (c : List ℕ) → c ≡ content
-    → MayLeave next_in_chain content (on_log over input stands).change c
-over_may_leave over content input leads Blank is c same =
-    leads nothing_logged c (ap logged_of is) same
-over_may_leave over content input leads NotALog is c same = same
-over_may_leave over content input leads (Damaged before at) is c same = same
-over_may_leave over content input leads (Holds stored marked gate) is c same =
-    leads (record { blocks = blocks_in stored; marked = marked }) c (ap logged_of is) same
-
--- the output of `append` over the chain of the log
-abbrev appended : List ℕ → Logged → Output
-appended input = append_to block_in compiled_in input
-
--- the frames that it takes
-abbrev frames_of : List ℕ → Logged → Fold
-frames_of input logged =
-    fold_from block_in (placement_by_mark compiled_in logged.marked) (MAX_FRAMES + 1) logged.blocks
-    input
-
-append_may_leave : (input content c : List ℕ) → c ≡ content → MayLeave next_in_chain content
-    (on_log (appended input) input (standing next_in_chain content)).change c
-append_may_leave input content = over_may_leave (appended input) content input
-    (λ logged. log_may_leave content logged (added_by_all (frames_of input logged).taken))
-    (standing next_in_chain content) refl
-
-upgrade_may_leave : (input content c : List ℕ) → c ≡ content → MayLeave next_in_chain content
-    (on_log (upgrade_output input) input (standing next_in_chain content)).change c
-upgrade_may_leave input content = over_may_leave (upgrade_output input) content input
-    (λ logged. mark_may_leave content logged logged.marked)
-    (standing next_in_chain content) refl
-
--- a log of which it is said that nothing changes was marked
-was_marked : (marked : Bool) → is_no_change (upgrade_change marked) ≡ true → marked ≡ true
-was_marked true none = refl
-was_marked false none = absurd (cc none)
 
 fmt_no_change : (edition : ℕ) (input : List ℕ) (output : Output) → IsFmtOutput edition input output
     → output.change ≡ NoChange
@@ -193,6 +105,7 @@ no_change (Some (Pack version)) input content output quiet is = ap (λ (o : Outp
 no_change (Some (Gen generation)) input content output quiet is = ap (λ (o : Output). o.change) is
 no_change (Some (Load generation)) input content output quiet is = ap (λ (o : Output). o.change) is
 no_change (Some Append) input content output quiet is = absurd (cc quiet)
+no_change (Some Follow) input content output quiet is = absurd (cc quiet)
 no_change (Some Upgrade) input content output quiet is = absurd (cc quiet)
 no_change (Some (Root at)) input content output quiet is = asked_no_change
     (λ blocks. root_outcome compiled_in (at_or_last at blocks) blocks) input content output is
@@ -222,11 +135,6 @@ no_change (Some (Expose root query root_at)) input content output quiet is = is_
     (λ logged. IsExposeOutput compiled_in root.0 query root_at input logged.blocks)
     (λ logged. expose_no_change compiled_in root.0 query root_at input logged.blocks) input
     (standing next_in_chain content) output is
-
--- a change that appends no block has none to append
-no_blocks : (added : List Block) → is_no_change (Appends added) ≡ true → added ≡ []
-no_blocks [] none = refl
-no_blocks (block ∷ blocks) none = absurd (cc none)
 
 -- ---- what is found for each command
 
@@ -417,267 +325,6 @@ module _ {D : Type 0} (now : D → ℕ) (disk : D → ℕ → Option DiskState)
   of_command old new status left_old left_new held command given is run = subst
       (λ (c : Command). IsRun now disk told old new status left_old left_new held block_in
       compiled_in (Some c)) (sym is) run
-
-  -- ---- commands that change the log
-
-  -- no log could be started
-  refused_met : (over : Logged → Output) (old mid new : D) (error : StartError)
-      (found : Result Outcome OutcomeStop) (result : Result Ending RunStop)
-      (left : Option (List ℕ)) (input content : List ℕ)
-      → Rests (disk old (now old)) (λ c. c ≡ content) → Stays now disk old mid
-      → told mid ≡ told old → IsNoStart (standing next_in_chain content) error
-      → IfOk found (λ outcome. start_outcome error ≡ Ok outcome) → Stays now disk mid new
-      → Tells next_in_chain now disk told mid new found result → left ≡ leaves left input
-      → ((c : List ℕ) → c ≡ content → MayLeave next_in_chain content
-      (on_log over input (standing next_in_chain content)).change c)
-      → Meets next_in_chain now disk told old new (status_of_result result) left left content
-      (on_log over input (standing next_in_chain content))
-  refused_met over old mid new error (Ok outcome) result left input content rests begins same none
-      is stays says left_is leads =
-      let stands = standing next_in_chain content in
-      subst (Meets next_in_chain now disk told old new (status_of_result result) left left content)
-      (on_log_is over input stands (output_of outcome input)
-      (is_on_no_log (λ logged o. o ≡ over logged) input stands error outcome none is))
-      (said_met now disk told old new content outcome result left left input rests
-      (stays_on now disk old mid new begins stays)
-      (says_since now disk told old mid new outcome result same says) left_is)
-  refused_met over old mid new error (Err stop) result left input content rests begins same none is
-      stays says left_is leads =
-      let output = on_log over input (standing next_in_chain content) in
-      silent_met now disk told old new content output (stop_of_outcome stop) result left left
-      (quiet_images now disk told old new content output.change rests
-      (stays_on now disk old mid new begins stays) leads)
-      (record { stop_is = says.stop_is; silent = says.silent ∙ same })
-
-  refused_by : (command : Option Command) (over : List ℕ → Logged → Output)
-      → uses_scratch command ≡ true → uses_disk command ≡ true
-      → ((input content : List ℕ) → Wants block_in compiled_in command input content
-      (on_log (over input) input (standing next_in_chain content)))
-      → ((input content c : List ℕ) → c ≡ content → MayLeave next_in_chain content
-      (on_log (over input) input (standing next_in_chain content)).change c)
-      → (old mid new : D) (error : StartError) (found : Result Outcome OutcomeStop)
-      (result : Result Ending RunStop) (left : Option (List ℕ)) (held : Bool)
-      → IsSettled (disk old (now old)) → Stays now disk old mid → told mid ≡ told old
-      → (held ≡ true → (content : List ℕ) → content_of (disk old (now old)) ≡ Some content
-      → IsNoStart (standing next_in_chain content) error)
-      → IfOk found (λ outcome. start_outcome error ≡ Ok outcome) → Stays now disk mid new
-      → Tells next_in_chain now disk told mid new found result
-      → IsRun now disk told old new (status_of_result result) left left held block_in compiled_in
-      command
-  refused_by command over uses needs wanted leads old mid new error found result left held settled
-      begins same started is stays says heard input content given_input given =
-      let here = told_input (content_of (disk old (now old))) content
-      (subst (λ (b : Bool). IsGiven b (content_of (disk old (now old))) content) needs given) in (
-        on_log (over input) input (standing next_in_chain content),
-        wanted input content,
-        refused_met (over input) old mid new error found result left input content
-            (rests_given (uses_disk command) (disk old (now old)) content settled given) begins same
-            (started (heard uses) content here) is stays says
-            (left_given (reads_input command) left input given_input) (leads input content),
-      )
-
-  pub refused_run : (command : Command) → changes_log (Some command) ≡ true → (old mid new : D)
-      (error : StartError) (found : Result Outcome OutcomeStop) (result : Result Ending RunStop)
-      (left : Option (List ℕ)) (held : Bool) → IsSettled (disk old (now old))
-      → Stays now disk old mid → told mid ≡ told old
-      → (held ≡ true → (content : List ℕ) → content_of (disk old (now old)) ≡ Some content
-      → IsNoStart (standing next_in_chain content) error)
-      → IfOk found (λ outcome. start_outcome error ≡ Ok outcome) → Stays now disk mid new
-      → Tells next_in_chain now disk told mid new found result
-      → IsRun now disk told old new (status_of_result result) left left held block_in compiled_in
-      (Some command)
-  refused_run command changes old mid new error found result left held settled begins same started
-      is stays says = elim (changed_by command) [
-        | inl keeps ↦ absurd (cc (changes, keeps))
-        | inr other ↦ elim other [
-          | inl appends ↦ of_command old new (status_of_result result) left left held command Append
-              appends (refused_by (Some Append) appended refl refl (λ input content. refl)
-              append_may_leave old mid new error found result left held settled begins same started
-              is stays says)
-          | inr marks ↦ of_command old new (status_of_result result) left left held command Upgrade
-              marks (refused_by (Some Upgrade) upgrade_output refl refl (λ input content. refl)
-              upgrade_may_leave old mid new error found result left held settled begins same started
-              is stays says)
-        ]
-      ]
-
-  -- ---- `append`
-
-  append_met : (old mid new : D) (content : List ℕ) (logged : Logged) (fold : Fold)
-      (answer : Result AppendEnd RunStop) (left_old left_new : Option (List ℕ)) (input : List ℕ)
-      → left_old ≡ Some input → chain_of next_in_chain content ≡ Some logged
-      → Stays now disk old mid
-      → Keeps now disk old new (MayLeave next_in_chain content (Appends (added_by_all fold.taken)))
-      → Telling next_in_chain now disk told old new (fold_lines compiled_in logged.blocks fold)
-      (is_ok answer)
-      → (is_ok answer ≡ true → added_by_all fold.taken ≡ [] → Stays now disk mid new)
-      → IfOk answer (Appended (disk new (now new)) left_new logged fold)
-      → Meets next_in_chain now disk told old new (status_of_result (append_answer answer)) left_old
-      left_new content (append_output compiled_in logged.blocks fold)
-  append_met old mid new content logged fold (Ok end) left_old left_new input left_is is begins
-      images lines unwritten ended =
-      let ends : came_to_end (status_of (fold_ending (fold_end end))) ≡ true = ending_ends
-      (fold_ending (fold_end end)) in
-      let added : List Block = added_by_all fold.taken in
-      record {
-        lines = subst (λ (all : Bool). Telling next_in_chain now disk told old new
-            (fold_lines compiled_in logged.blocks fold) all) (sym ends) lines;
-        images = images;
-        unwritten = λ e none. stays_on now disk old mid new begins
-            (unwritten refl (no_blocks added none));
-        ended = λ e. record {
-          status_is = ap (λ (x : FoldEnd). status_of (fold_ending x)) ended.end_is;
-          left_is = ended.left_is ∙ left_read left_old input fold.left left_is;
-          log = rests_weaker
-              (λ image. chain_of next_in_chain image ≡ Some (with_blocks logged added))
-              (IsChanged next_in_chain content (Appends added)) (disk new (now new)) ended.log
-              (λ image at. (logged, is, at));
-        };
-      }
-  append_met old mid new content logged fold (Err stop) left_old left_new input left_is is begins
-      images lines unwritten ended =
-      let halts = stop_stops stop in
-      record {
-        lines = subst (λ (all : Bool). Telling next_in_chain now disk told old new
-            (fold_lines compiled_in logged.blocks fold) all) (sym halts) lines;
-        images = images;
-        unwritten = λ e none. absurd (cc (halts, e));
-        ended = λ e. absurd (cc (halts, e));
-      }
-
-  pub append_run : (old mid new : D) (node : NodeState) (answer : Result AppendEnd RunStop)
-      (left_old left_new : Option (List ℕ)) (held : Bool) → IsSettled (disk old (now old))
-      → Stays now disk old mid → told mid ≡ told old
-      → (held ≡ true → (content : List ℕ) → content_of (disk old (now old)) ≡ Some content
-      → IsNodeStarted (disk mid (now mid)) (standing next_in_chain content) (Ok node))
-      → (held ≡ true → (blocks : List Block) (input : List ℕ)
-      → IsNodeOf node (disk mid (now mid)) blocks → left_old ≡ Some input
-      → AppendsAll now disk told mid new left_new (logged_in node.log blocks)
-      (frames_of input (logged_in node.log blocks)) answer)
-      → IsRun now disk told old new (status_of_result (append_answer answer)) left_old left_new held
-      block_in compiled_in (Some Append)
-  append_run old mid new node answer left_old left_new held settled begins same started all heard
-      input content given_input given =
-      let left_is = told_input left_old input given_input in
-      let s = started (heard refl) content
-      (told_input (content_of (disk old (now old))) content given) in
-      let logged : Logged = logged_in node.log s.0.blocks in
-      let stands = started_chain node (disk mid (now mid)) (standing next_in_chain content) s in
-      let fold : Fold = frames_of input logged in
-      let added : List Block = added_by_all fold.taken in
-      let appends = all (heard refl) s.0.blocks input s.2.0 left_is in
-      let here : IsKnown (disk mid (now mid)) = ap is_some begins.last
-      ∙ told_disk (disk old (now old)) content given in
-      let rests = rests_given true (disk old (now old)) content settled given in
-      let images : Keeps now disk old new (MayLeave next_in_chain content (Appends added)) =
-      then_keeps now disk old mid new (MayLeave next_in_chain content (Appends added))
-      (quiet_images now disk told old mid content (Appends added) rests begins
-      (λ c at. log_may_leave content logged added c stands at))
-      (weaker now disk mid new (IsPartly next_in_chain logged added)
-      (MayLeave next_in_chain content (Appends added)) (appends.images here)
-      (λ c at. (logged, stands, at))) in (
-        append_output compiled_in logged.blocks fold,
-        sym (on_log_blocks (appended input) input (standing next_in_chain content) logged stands),
-        append_met old mid new content logged fold answer left_old left_new input left_is stands
-            begins images (told_since next_in_chain now disk told old mid new
-            (fold_lines compiled_in logged.blocks fold) (is_ok answer) same (appends.lines here))
-            appends.unwritten appends.ended,
-      )
-
-  -- ---- `upgrade`
-
-  mark_images : (old mid new : D) (content : List ℕ) (logged : Logged) (marked : Bool)
-      → logged.marked ≡ marked → chain_of next_in_chain content ≡ Some logged
-      → Rests (disk old (now old)) (λ c. c ≡ content) → Stays now disk old mid
-      → Keeps now disk mid new (IsOldOrMarked next_in_chain logged)
-      → (logged.marked ≡ true → Stays now disk mid new)
-      → Keeps now disk old new (MayLeave next_in_chain content (upgrade_change marked))
-  mark_images old mid new content logged true mark is rests begins images unwritten =
-      content_stays now disk told old new content rests
-      (stays_on now disk old mid new begins (unwritten mark))
-  mark_images old mid new content logged false mark is rests begins images unwritten =
-      then_keeps now disk old mid new (MayLeave next_in_chain content Marks)
-      (quiet_images now disk told old mid content Marks rests begins
-      (λ c at. mark_may_leave content logged false c is at))
-      (weaker now disk mid new (IsOldOrMarked next_in_chain logged)
-      (MayLeave next_in_chain content Marks) images (λ c at. (logged, is, at)))
-
-  mark_stands : (old mid new : D) (content : List ℕ) (logged : Logged) (marked : Bool)
-      → logged.marked ≡ marked → chain_of next_in_chain content ≡ Some logged
-      → Rests (disk old (now old)) (λ c. c ≡ content) → Stays now disk old mid
-      → (logged.marked ≡ true → Stays now disk mid new)
-      → Rests (disk new (now new)) (λ image. chain_of next_in_chain image ≡ Some (with_mark logged))
-      → Rests (disk new (now new)) (IsChanged next_in_chain content (upgrade_change marked))
-  mark_stands old mid new content logged true mark is rests begins unwritten ended = subst
-      (λ (o : Option DiskState). Rests o (λ c. c ≡ content))
-      (sym (stays_on now disk old mid new begins (unwritten mark)).last) rests
-  mark_stands old mid new content logged false mark is rests begins unwritten ended = rests_weaker
-      (λ image. chain_of next_in_chain image ≡ Some (with_mark logged))
-      (IsChanged next_in_chain content Marks) (disk new (now new)) ended
-      (λ image at. (logged, is, at))
-
-  upgrade_met : {T : Type 0} (old mid new : D) (content : List ℕ) (logged : Logged)
-      (answer : Result T RunStop) (left : Option (List ℕ)) (input : List ℕ)
-      → left ≡ leaves left input → chain_of next_in_chain content ≡ Some logged
-      → Rests (disk old (now old)) (λ c. c ≡ content) → Stays now disk old mid
-      → told mid ≡ told old → IsKnown (disk mid (now mid))
-      → Upgrades now disk told mid new logged answer
-      → Meets next_in_chain now disk told old new (status_of_result (upgrade_answer answer)) left
-      left content (upgrade_output input logged)
-  upgrade_met old mid new content logged (Ok done) left input left_is is rests begins same here
-      upgrades = record {
-        lines = told_since next_in_chain now disk told old mid new
-            (upgrade_output input logged).lines true same (upgrades.lines here);
-        images = mark_images old mid new content logged logged.marked refl is rests begins
-            (upgrades.images here) upgrades.unwritten;
-        unwritten = λ e none. stays_on now disk old mid new begins
-            (upgrades.unwritten (was_marked logged.marked none));
-        ended = λ e. record {
-          status_is = refl;
-          left_is = left_is;
-          log = mark_stands old mid new content logged logged.marked refl is rests begins
-              upgrades.unwritten upgrades.ended;
-        };
-      }
-  upgrade_met old mid new content logged (Err stop) left input left_is is rests begins same here
-      upgrades =
-      let halts = stop_stops stop in
-      record {
-        lines = subst (λ (all : Bool). Telling next_in_chain now disk told old new
-            (upgrade_output input logged).lines all) (sym halts)
-            (told_since next_in_chain now disk told old mid new
-            (upgrade_output input logged).lines false same (upgrades.lines here));
-        images = mark_images old mid new content logged logged.marked refl is rests begins
-            (upgrades.images here) upgrades.unwritten;
-        unwritten = λ e none. absurd (cc (halts, e));
-        ended = λ e. absurd (cc (halts, e));
-      }
-
-  pub upgrade_run : {T : Type 0} (old mid new : D) (node : NodeState) (answer : Result T RunStop)
-      (left : Option (List ℕ)) (held : Bool) → IsSettled (disk old (now old))
-      → Stays now disk old mid → told mid ≡ told old
-      → (held ≡ true → (content : List ℕ) → content_of (disk old (now old)) ≡ Some content
-      → IsNodeStarted (disk mid (now mid)) (standing next_in_chain content) (Ok node))
-      → ((blocks : List Block) → IsNodeOf node (disk mid (now mid)) blocks
-      → Upgrades now disk told mid new (logged_in node.log blocks) answer)
-      → IsRun now disk told old new (status_of_result (upgrade_answer answer)) left left held
-      block_in compiled_in (Some Upgrade)
-  upgrade_run old mid new node answer left held settled begins same started all heard input content
-      given_input given =
-      let s = started (heard refl) content
-      (told_input (content_of (disk old (now old))) content given) in
-      let logged : Logged = logged_in node.log s.0.blocks in
-      let stands = started_chain node (disk mid (now mid)) (standing next_in_chain content) s in
-      let here : IsKnown (disk mid (now mid)) = ap is_some begins.last
-      ∙ told_disk (disk old (now old)) content given in (
-        upgrade_output input logged,
-        sym (on_log_blocks (upgrade_output input) input (standing next_in_chain content) logged
-            stands),
-        upgrade_met old mid new content logged answer left input
-            (left_same left input given_input) stands
-            (rests_given true (disk old (now old)) content settled given) begins same here
-            (all s.0.blocks s.2.0),
-      )
 
   -- ---- whole runs
 

@@ -7,7 +7,7 @@ ghost use Rattle.disk_model.specs.Disk.{IsSettled};
 ghost use Rattle.chain_replay.specs.Chain.{ChainState};
 ghost use Rattle.scratch_model.specs.Scratch.{is_known};
 ghost use Rattle.cli_append.specs.recovery.Restoring.{ReadsLog};
-ghost use Rattle.cli_proofs.specs.{
+ghost use Rattle.cli_traces.specs.cli_proofs.{
   Exposing.{ledger_kept},
   merkle_dag.Lineage.{AgreesWith, ledger_in},
 };
@@ -26,9 +26,8 @@ use crate::packing::pack;
 use crate::scan::scan;
 use cli_append::{Node, Outcome, stored_chain};
 use cli_output::{OutcomeStop, start_outcome};
-use cli_proofs::{Lineage, expose, prove, verify};
 use cli_ranges::{prove_range, range, verify_range};
-use cli_traces::{prove_trace, trace, verify_trace};
+use cli_traces::{Lineage, expose, prove, prove_trace, trace, verify, verify_trace};
 use cli_words::Command;
 use disk_model::Disk;
 use lc_base::{Key, Kind};
@@ -182,6 +181,7 @@ pub fn find<I: Source, M: Disk, S: Scratch>(
         | Command::ProveRange { .. } => ask_lineage(resources, command, source, machine, scratch),
         Command::Gen(_)
         | Command::Append
+        | Command::Follow
         | Command::Upgrade
         | Command::MakeLight
         | Command::Light => unreachable!(),

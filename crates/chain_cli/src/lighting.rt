@@ -5,7 +5,7 @@ ghost use Rattle.lc_base.specs.Faults.{HasCause};
 ghost use Rattle.lc_io.specs.Disk.{Stays};
 ghost use Rattle.disk_model.specs.Disk.{IsSettled};
 ghost use Rattle.block_codec.specs.Reading.{block_in};
-ghost use Rattle.cli_proofs.specs.chain_exec.Compiled.{compiled_in};
+ghost use Rattle.cli_append.specs.chain_exec.Compiled.{compiled_in};
 ghost use Rattle.scratch_model.specs.Scratch.{is_known};
 ghost use Rattle.cli_words.specs.declared.words.Command.TheVariants.{MakeLight};
 ghost use Rattle.cli_output.specs.{

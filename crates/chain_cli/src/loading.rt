@@ -3,13 +3,12 @@
 ghost use Rattle.std.specs.Prelude.{◌≡◌, true, IfOk, IsErrOf};
 ghost use Rattle.lc_base.specs.Faults.{HasCause};
 ghost use Rattle.scratch_model.specs.Scratch.{is_known};
-ghost use Rattle.cli_proofs.specs.chain_exec.Compiled.{compiled_in};
+ghost use Rattle.cli_append.specs.chain_exec.Compiled.{compiled_in};
 ghost use Rattle.cli_words.specs.Words.{IsCount};
 ghost use Rattle.cli_output.specs.Output.{load_outcome};
 
-use chain_load::load_chain;
 use cli_append::{Ending, Outcome};
-use cli_output::{OutcomeStop, load_line};
+use cli_output::{OutcomeStop, load_chain, load_line};
 use cli_words::Generation;
 use lc_base::HostError;
 use resources::Resources;

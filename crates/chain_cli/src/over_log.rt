@@ -1,17 +1,20 @@
-//! The commands over the log: `append` and `upgrade`, and what is found for `root` and for the
-//! questions `hist`, `back` and `fwd`.
+//! The commands over the log: `append`, `follow` and `upgrade`, and what is found for `root` and
+//! for the questions `hist`, `back` and `fwd`.
 
 ghost use Rattle.std.specs.Prelude.{◌≡◌, ℕ, true, false, List, Option, Some, IfOk, IsErrOf};
 ghost use Rattle.lc_base.specs.Faults.{HasCause};
 ghost use Rattle.disk_model.specs.Disk.{IsSettled, Keeps, content_of};
 ghost use Rattle.block_codec.specs.{Reading.{block_in}, declared.block.Block.{Block as Blocks}};
 ghost use Rattle.block_log.specs.Log.{next_in_log};
-ghost use Rattle.cli_proofs.specs.chain_exec.Compiled.{compiled_in};
+ghost use Rattle.cli_append.specs.chain_exec.Compiled.{compiled_in};
 ghost use Rattle.chain_replay.specs.Chain.{ChainState, StandsFor};
 ghost use Rattle.scratch_model.specs.Scratch.{is_known};
 ghost use Rattle.cli_append.specs.recovery.Node.{next_in_chain};
 ghost use Rattle.crash_promises.specs.Promises.{MayLeaveAny};
-ghost use Rattle.cli_proofs.specs.{Exposing.{ledger_kept}, merkle_dag.Lineage.{ledger_in}};
+ghost use Rattle.cli_traces.specs.cli_proofs.{
+  Exposing.{ledger_kept},
+  merkle_dag.Lineage.{ledger_in},
+};
 ghost use Rattle.cli_output.specs.{
   Output.{answer_outcome, root_outcome, at_or_last},
   Running.{IsRun, IsSilent, MayEnd, found_no_log},
@@ -23,8 +26,8 @@ ghost use Rattle.cli_output.specs.{
 use crate::scan::whole_outcome;
 use chain_replay::Chain;
 use cli_append::{AppendEnd, Ending, Outcome, append, root_line, start, upgrade};
-use cli_output::{RunStop, beyond, start_outcome, tell};
-use cli_proofs::Lineage;
+use cli_output::{RunStop, beyond, follow, start_outcome, tell};
+use cli_traces::Lineage;
 use cli_words::Command;
 use disk_model::Disk;
 use lc_base::{Key, Kind, Memory, Query};
@@ -33,7 +36,7 @@ use resources::Resources;
 use scratch_model::Scratch;
 use std::alloc::Global;
 
-/// How the command `append` ends, by the result of appending.
+/// How the commands `append` and `follow` end, by the result of taking all frames.
 fn append_answer(answer: Result<AppendEnd, RunStop>) -> Result<Ending, RunStop>
     ensures { result ≡ append_answer answer }
 {
@@ -54,10 +57,10 @@ fn upgrade_answer(answer: Result<(), RunStop>) -> Result<Ending, RunStop>
     }
 }
 
-/// Takes the blocks of the input into the chain of the log, and prints a line for each; or marks the
-/// log, and prints the number of its blocks, or that it was marked already. Both begin with a sync:
-/// so that a block or a mark of which is printed that it is there rests on bytes that no crash can
-/// take.
+/// Takes the blocks of the input into the chain of the log, in order, and prints a line for each;
+/// or delivers them to a follower, and prints a line for each of its turns; or marks the log, and
+/// prints the number of its blocks, or that it was marked already. All begin with a sync: so that a
+/// block or a mark of which is printed that it is there rests on bytes that no crash can take.
 pub fn change_log<I: Source, M: Disk + Wire, S: Scratch>(
     resources: Resources,
     command: &Command,
@@ -83,6 +86,7 @@ pub fn change_log<I: Source, M: Disk + Wire, S: Scratch>(
     match start(resources, machine, scratch) {
         Ok(node) => match command {
             Command::Append => append_answer(append(alloc, source, machine, scratch, node)),
+            Command::Follow => append_answer(follow(alloc, source, machine, scratch, node)),
             _ => upgrade_answer(upgrade(alloc, machine, node)),
         },
         Err(error) => tell(machine, start_outcome(alloc, error)),

@@ -7,7 +7,7 @@ ghost use Rattle.disk_model.specs.Disk.{IsSettled, Keeps, content_of};
 ghost use Rattle.byte_fields.specs.Spelling.{IsBytes};
 ghost use Rattle.block_codec.specs.{Reading.{block_in}, Spelling.{Decoder, IsDecoder}};
 ghost use Rattle.block_log.specs.Log.{next_in_log};
-ghost use Rattle.cli_proofs.specs.chain_exec.Compiled.{Compiler, IsCompiler, compiled_in};
+ghost use Rattle.cli_append.specs.chain_exec.Compiled.{Compiler, IsCompiler, compiled_in};
 ghost use Rattle.cli_words.specs.{
   declared.words.Command.{Command as Commands},
   Words.{CanBeGiven, IsCommand, IsOneCommand},
@@ -18,7 +18,15 @@ ghost use Rattle.crash_promises.specs.Promises.{MayLeaveAny};
 ghost use Rattle.cli_output.specs.{
   Output.{FormatsAgain, IsWanted, IsOneOutput, log_next_by, next_by},
   Running.{IsRun, IsSilent, MayEnd, found_no_log},
-  Showing.{VerifiedAnswersHold, VerifiedTracesHold, VerifiedRangesHold, WrongAnswersAreTold, LightAnswersHold, MadeLightFilesAreWhole},
+  Showing.{
+    VerifiedAnswersHold,
+    VerifiedTracesHold,
+    VerifiedRangesHold,
+    WrongAnswersAreTold,
+    LightAnswersHold,
+    MadeLightFilesAreWhole,
+    FollowedChainsArePrefixes,
+  },
   Telling.{status_of_result},
   Uses.{reads_input, uses_disk, uses_scratch, changes_log, tells_as_it_goes},
 };
@@ -67,7 +75,7 @@ fn run_command<I: Source, M: Disk + Wire, S: Scratch>(
         Command::Gen(generation) => generate(resources.alloc, machine, generation),
         Command::MakeLight => make_light(resources, machine, scratch),
         Command::Light => light(resources.alloc, source, machine),
-        Command::Append | Command::Upgrade => {
+        Command::Append | Command::Follow | Command::Upgrade => {
             change_log(resources, command, source, machine, scratch)
         }
         _ => {
@@ -160,6 +168,9 @@ pub fn run<I: Source, M: Disk + Wire, S: Scratch>(
     // file is, up to the block of the proof's root; or a text of the proof and one of that chain's
     // ledger differ and have one digest.
     ensures checked { (input : List ℕ) → LightAnswersHold input }
+    // Where the chain of the log is a prefix of a leader's, and the input has only blocks of the
+    // leader, in any order, the chain with the blocks that `follow` appends is a prefix of it, too.
+    ensures followed { (input : List ℕ) → FollowedChainsArePrefixes input }
     // The bytes that `light make` prints over the blocks of a log are their light file.
     ensures light_made { MadeLightFilesAreWhole }
     // Whatever the source has left, if the disk is known, and which bytes the scratch device holds:

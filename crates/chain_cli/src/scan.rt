@@ -12,7 +12,7 @@ ghost use Rattle.cli_output.specs.{
   Scanning.{GivesOutput, EndsAsked},
   Telling.{OnlyReads},
 };
-ghost use Rattle.cli_proofs.specs.chain_exec.Compiled.{compiled_in};
+ghost use Rattle.cli_append.specs.chain_exec.Compiled.{compiled_in};
 ghost use Rattle.chain_input.specs.Folding.{fold_input};
 
 use chain_input::{Cause, Folded, fold};

@@ -5,7 +5,7 @@ ghost use Rattle.std.specs.Prelude.{◌≡◌};
 use cli_lines::Cause;
 use lc_base::Memory;
 
-/// How appending came to its end.
+/// How taking the frames of an input came to its end.
 #[derive(Clone, Copy, Debug, PartialEq, Eq)]
 pub enum AppendEnd {
     /// All frames of the input were taken.

@@ -18,6 +18,8 @@ pub use cli_lines::{
     not_a_log_line, range_lines, read_whole, refused_line, root_line, trace_lines, usage_line,
 };
 pub use ending::{AppendEnd, RunStop};
+pub use lines::{block_line, known_line};
 pub use recovery::{Node, StartError, stored_chain};
 pub use starting::start;
+pub use telling::{refuse, tell_line};
 pub use upgrading::upgrade;

@@ -19,7 +19,7 @@ const COMMA: u8 = b',';
 const NO_STATUS: &[u8] = b"-";
 
 /// The line of a block that the chain holds already.
-fn known_line(alloc: Global, number: u32) -> Result<Bytes, Memory>
+pub fn known_line(alloc: Global, number: u32) -> Result<Bytes, Memory>
     ensures { IfOk result (λ bytes. bytes ≡ known_line number) }
 {
     let text = format!(in alloc; "known {number}\n")?;
@@ -61,7 +61,7 @@ fn statuses_text(alloc: Global, receipts: &[Receipt]) -> Result<Vec<u8>, AllocEr
 
 /// The line of a block that was stored: the number of rows that it wrote, how its transactions
 /// ended, and the root at it.
-fn block_line(
+pub fn block_line(
     alloc: Global,
     number: u32,
     rows: u32,

@@ -76,7 +76,7 @@ fn misplaced_text(alloc: Global, why: &Misplaced) -> Result<String, AllocError>
 }
 
 /// Why a chain refuses bytes, in words.
-fn refusal_text(alloc: Global, refusal: &Refusal) -> Result<String, AllocError>
+pub fn refusal_text(alloc: Global, refusal: &Refusal) -> Result<String, AllocError>
     ensures { IfOk result (λ text. string_bytes text ≡ refusal_text refusal.now) }
 {
     match refusal {

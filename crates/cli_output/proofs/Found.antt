@@ -12,7 +12,8 @@ use Rattle.cli_append.specs.recovery.Node.{IsChainStored, IsNoStart, next_in_cha
 use Rattle.cli_append.specs.recovery.declared.errors.StartError.{StartError}
 use Rattle.cli_append.specs.cli_lines.declared.outcome.Outcome.{Outcome}
 use Rattle.cli_words.specs.declared.words.Command.{Command}
-use Rattle.cli_words.specs.declared.words.Command.TheVariants.{Scan, Fmt, Pack, Gen, Load, Append, Upgrade}
+use Rattle.cli_words.specs.declared.words.Command.TheVariants.{Scan, Fmt, Pack, Gen, Load, Append}
+use Rattle.cli_words.specs.declared.words.Command.TheVariants.{Follow, Upgrade}
 use Rattle.cli_words.specs.declared.words.Command.TheVariants.{Root, Ask, Prove, Verify, Expose}
 use Rattle.cli_words.specs.declared.words.Command.TheVariants.{Trace, ProveTrace, VerifyTrace}
 use Rattle.cli_words.specs.declared.words.Command.TheVariants.{Range, ProveRange, VerifyRange}
@@ -165,6 +166,7 @@ log_wanted (Pack version) asks input content output is = absurd (cc asks)
 log_wanted (Gen generation) asks input content output is = absurd (cc asks)
 log_wanted (Load generation) asks input content output is = absurd (cc asks)
 log_wanted Append asks input content output is = absurd (cc asks)
+log_wanted Follow asks input content output is = absurd (cc asks)
 log_wanted Upgrade asks input content output is = absurd (cc asks)
 log_wanted (Verify root query) asks input content output is = absurd (cc asks)
 log_wanted (VerifyTrace root key at) asks input content output is = absurd (cc asks)

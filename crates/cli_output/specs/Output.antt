@@ -35,6 +35,7 @@ use Rattle.light_soundness.specs.light_client.light_file.Reading.{left_of_none}
 use Rattle.light_soundness.specs.light_client.light_file.declared.block_root.BlockRoot.{BlockRoot}
 use Rattle.crash_promises.specs.Promises.{Line, plain, Change, NoChange, Appends}
 use Rattle.cli_append.specs.Appending.{fold_lines, marked_line, upgrade_text, upgrade_change}
+use Rattle.cli_follow.specs.Following.{FollowFold, follow_all, follow_lines}
 use Rattle.chain_pack.specs.Draft.{texts_of_draft}
 use Rattle.chain_gen.specs.Generator.{blocks_of_seed}
 use Rattle.chain_load.specs.Loads.{load_of}
@@ -61,7 +62,8 @@ use Rattle.cli_words.specs.declared.words.BlockVersion.{BlockVersion}
 use Rattle.cli_words.specs.declared.words.BlockVersion.TheVariants as versions
 use Rattle.cli_words.specs.declared.words.Generation.{Generation}
 use Rattle.cli_words.specs.declared.words.Command.{Command}
-use Rattle.cli_words.specs.declared.words.Command.TheVariants.{Scan, Fmt, Pack, Gen, Load, Append, Upgrade}
+use Rattle.cli_words.specs.declared.words.Command.TheVariants.{Scan, Fmt, Pack, Gen, Load, Append}
+use Rattle.cli_words.specs.declared.words.Command.TheVariants.{Follow, Upgrade}
 use Rattle.cli_words.specs.declared.words.Command.TheVariants.{Root, Ask, Prove, Verify, Expose}
 use Rattle.cli_words.specs.declared.words.Command.TheVariants.{Trace, ProveTrace, VerifyTrace}
 use Rattle.cli_words.specs.declared.words.Command.TheVariants.{Range, ProveRange, VerifyRange}
@@ -278,7 +280,7 @@ IsOnLog Over input NotALog output = output ≡ not_a_log_output input
 IsOnLog Over input (Damaged before at) output = output ≡ damaged_output at input
 IsOnLog Over input (Holds stored marked gate) output = Over (record { blocks = blocks_in stored; marked = marked }) output
 
--- How `append` ends, by how the frames end.
+-- How `append` and `follow` end, by how the frames end.
 abbrev pub fold_ending : FoldEnd → Ending
 fold_ending Whole = endings.Done
 fold_ending (Refused frame cause) = endings.Refused
@@ -294,6 +296,22 @@ append_output compile blocks fold =
 abbrev pub append_to : Decoder → Compiler → List ℕ → Logged → Output
 append_to read compile input logged =
     append_output compile logged.blocks (fold_from read (placement_by_mark compile logged.marked) (MAX_FRAMES + 1) logged.blocks input)
+
+-- The output of `follow` for the frames of an input, by what becomes of them: a line for each turn,
+-- and one at the end. The blocks that are added are appended to the log.
+abbrev pub follow_output : FollowFold → Output
+follow_output fold = record {
+  lines = follow_lines fold;
+  status = status_of (fold_ending fold.end);
+  left = fold.left;
+  change = Appends fold.done.added;
+}
+
+-- The output of `follow` for the frames of an input, over the chain of a log: they are delivered to
+-- a follower that starts with it.
+abbrev pub follow_to : Compiler → List ℕ → Logged → Output
+follow_to compile input logged =
+    follow_output (follow_all compile (placement_by_mark compile) logged input)
 
 -- The output of `upgrade` over the chain of a log: the number of its blocks, and it is marked; or
 -- that it was marked already, and it stays as it is. The input is left.
@@ -467,6 +485,8 @@ Wants read compile (Some (Gen generation)) input content output = output ≡ gen
 Wants read compile (Some (Load generation)) input content output = output ≡ load_output compile generation input
 Wants read compile (Some Append) input content output =
     output ≡ on_log (append_to read compile input) input (standing (next_by read compile) content)
+Wants read compile (Some Follow) input content output =
+    output ≡ on_log (follow_to compile input) input (standing (next_by read compile) content)
 Wants read compile (Some Upgrade) input content output =
     output ≡ on_log (upgrade_output input) input (standing (next_by read compile) content)
 Wants read compile (Some (Root at)) input content output =

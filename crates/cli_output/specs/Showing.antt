@@ -1,13 +1,15 @@
 -- What the answer that `verify` prints proves, what `expose` prints for a wrong one, what the
--- ancestors that `trace verify` prints and the versions that `range verify` prints prove, and what
--- the answers that `light` prints prove.
+-- ancestors that `trace verify` prints and the versions that `range verify` prints prove, what the
+-- answers that `light` prints prove, and whose chain `follow` goes on with.
 use Rattle.std.specs.Prelude.{◌≡◌, ◌≢◌, ◌⊎◌, ◌≤◌, ℕ, ◌+◌, List, [], ◌∷◌, ◌++◌, map, Some}
 use Rattle.std.specs.Prelude.{Result, Ok, IfOk}
+use Rattle.std.specs.List.{All}
 use Rattle.hex.specs.Hex.{decode_of}
 use Rattle.lc_base.specs.declared.answer.Answer.{Answer}
 use Rattle.lc_base.specs.declared.answer.Query.{Query}
 use Rattle.block_codec.specs.declared.block.Block.{Block}
-use Rattle.cli_append.specs.chain_exec.Compiled.{Compiler}
+use Rattle.block_log.specs.Standing.{Logged}
+use Rattle.cli_append.specs.chain_exec.Compiled.{Compiler, IsCompiler}
 use Rattle.proof_codec.specs.declared.proof.Proof.{Proof}
 use Rattle.proof_commands.specs.proof_views.Viewing.{Spells}
 use Rattle.light_soundness.specs.replay_soundness.proof_checks.ProofTexts.{proof_texts}
@@ -32,13 +34,17 @@ use Rattle.light_soundness.specs.light_client.declared.reject.LightReject.{Light
 use Rattle.light_soundness.specs.light_client.light_file.Format.{light_bytes, light_in}
 use Rattle.light_soundness.specs.light_client.light_file.declared.block_root.BlockRoot.{BlockRoot}
 use Rattle.light_maker.specs.Making.{block_roots_of}
-use Rattle.crash_promises.specs.Promises.{Line, plain}
+use Rattle.crash_promises.specs.Promises.{Line, plain, Appends}
+use Rattle.light_soundness.specs.replay_soundness.chain_replay.Chain.{IsChain}
+use Rattle.cli_follow.specs.follow_core.follower_steps.Events.{IsFrameOf}
+use Rattle.cli_follow.specs.follow_core.follower_steps.Laws.{IsPrefixOf}
+use Rattle.cli_follow.specs.Laws.{AreFramesOf}
 use Rattle.cli_append.specs.cli_lines.chain_input.Folding.{FoldEnd}
 use Rattle.cli_append.specs.cli_lines.Lines.{answer_lines, trace_lines, range_lines}
 use Rattle.cli_append.specs.cli_lines.declared.status.Status.TheVariants as statuses
 use Rattle.cli_output.specs.Output.{Output, FitsInput, IsVerifyOutput, IsExposeOutput}
 use Rattle.cli_output.specs.Output.{IsVerifyTraceOutput, IsVerifyRangeOutput}
-use Rattle.cli_output.specs.Output.{told_bytes, make_light_output, light_output}
+use Rattle.cli_output.specs.Output.{told_bytes, make_light_output, light_output, follow_to}
 use Rattle.cli_output.specs.Frames.{framed}
 use Rattle.cli_output.specs.Lights.{proof_lines, refused_lines}
 use Rattle.cli_output.specs.Proofs.{clash_line}
@@ -157,3 +163,16 @@ MadeLightFilesAreWhole =
     (compile : Compiler) (blocks : List Block) (input : List ℕ)
     → told_bytes (make_light_output compile input blocks)
     ≡ light_bytes (block_roots_of (replay compile blocks).rows (map digest_of blocks))
+
+-- ---- a leader
+
+-- If the chain of the log is a prefix of a leader's chain, and each frame of the input has one of
+-- the leader's blocks, in any order and any number of times, then the chain of the log with the
+-- blocks that `follow` appends to it is a prefix of the leader's.
+abbrev pub FollowedChainsArePrefixes : List ℕ → Type 0
+FollowedChainsArePrefixes input =
+    (compile : Compiler) (leader added : List Block) (frames : List (List ℕ)) (logged : Logged)
+    → IsCompiler compile → IsChain compile leader → IsPrefixOf logged.blocks leader
+    → AreFramesOf 0 input frames → All (IsFrameOf leader) frames
+    → (follow_to compile input logged).change ≡ Appends added
+    → IsPrefixOf (logged.blocks ++ added) leader

@@ -44,7 +44,7 @@ abbrev pub status_of_usage : {T : Type 0} → Result T RunStop → Status
 status_of_usage (Ok told) = statuses.Usage
 status_of_usage (Err stop) = status_of_stop stop
 
--- How the command `append` ends, by the result of appending.
+-- How the commands `append` and `follow` end, by the result of taking all frames.
 abbrev pub append_answer : Result AppendEnd RunStop → Result Ending RunStop
 append_answer (Ok end) = Ok (fold_ending (fold_end end))
 append_answer (Err stop) = Err stop

@@ -2,7 +2,8 @@
 -- prints. `use_of` has one row a command, and all else here follows from it.
 use Rattle.std.specs.Prelude.{Bool, true, false, ◌||◌, Option, Some, None}
 use Rattle.cli_words.specs.declared.words.Command.{Command}
-use Rattle.cli_words.specs.declared.words.Command.TheVariants.{Scan, Fmt, Pack, Gen, Load, Append, Upgrade}
+use Rattle.cli_words.specs.declared.words.Command.TheVariants.{Scan, Fmt, Pack, Gen, Load, Append}
+use Rattle.cli_words.specs.declared.words.Command.TheVariants.{Follow, Upgrade}
 use Rattle.cli_words.specs.declared.words.Command.TheVariants.{Root, Ask, Prove, Verify, Expose}
 use Rattle.cli_words.specs.declared.words.Command.TheVariants.{Trace, ProveTrace, VerifyTrace}
 use Rattle.cli_words.specs.declared.words.Command.TheVariants.{Range, ProveRange, VerifyRange}
@@ -51,6 +52,7 @@ use_of (Some (Pack version)) = record { input = Text; chain = NoChain; print = A
 use_of (Some (Gen generation)) = record { input = Unread; chain = NoChain; print = AsMade }
 use_of (Some (Load generation)) = record { input = Unread; chain = MadeLineage; print = AtEnd }
 use_of (Some Append) = record { input = Frames; chain = LogAppended; print = AsMade }
+use_of (Some Follow) = record { input = Frames; chain = LogAppended; print = AsMade }
 use_of (Some Upgrade) = record { input = Unread; chain = LogMarked; print = AtEnd }
 use_of (Some (Root at)) = record { input = Unread; chain = LogLineage; print = AtEnd }
 use_of (Some (Ask kind key at)) = record { input = Unread; chain = LogRows; print = AtEnd }

@@ -1,0 +1,1 @@
+pub use Rattle.cli_proofs.specs as cli_proofs

@@ -6,6 +6,7 @@ mod proving;
 mod tracing;
 mod verifying;
 
+pub use cli_proofs::{Lineage, expose, prove, verify};
 pub use proving::prove_trace;
 pub use tracing::trace;
 pub use verifying::verify_trace;

@@ -18,8 +18,8 @@ use Rattle.cli_words.specs.declared.words.BlockVersion.TheVariants as versions
 use Rattle.cli_words.specs.declared.words.Generation.{Generation}
 use Rattle.cli_words.specs.declared.words.Command.{Command}
 use Rattle.cli_words.specs.declared.words.Command.TheVariants.{Scan, Fmt, Pack, Gen, Load, Append}
-use Rattle.cli_words.specs.declared.words.Command.TheVariants.{Upgrade, Root, Ask, Prove, Verify}
-use Rattle.cli_words.specs.declared.words.Command.TheVariants.{Expose, Trace, ProveTrace}
+use Rattle.cli_words.specs.declared.words.Command.TheVariants.{Follow, Upgrade, Root, Ask, Prove}
+use Rattle.cli_words.specs.declared.words.Command.TheVariants.{Verify, Expose, Trace, ProveTrace}
 use Rattle.cli_words.specs.declared.words.Command.TheVariants.{VerifyTrace, Range, ProveRange}
 use Rattle.cli_words.specs.declared.words.Command.TheVariants.{VerifyRange, MakeLight, Light}
 use Rattle.cli_words.specs.Words.{kind_word, query_words, scan_words, fmt_words, pack_words, generation_words, ask_words, root_words, prove_words, verify_words, expose_words, trace_words, prove_trace_words, verify_trace_words, range_words, prove_range_words, verify_range_words, command_words, IsQuery, IsGeneration, IsRootGiven, AreBlocks, Fits, CanBeGiven, IsCommand, IsOneCommand}
@@ -214,6 +214,7 @@ data Form : Type 0 where
   IsGenForm : Form
   IsLoadForm : Form
   IsAppendForm : Form
+  IsFollowForm : Form
   IsUpgradeForm : Form
   IsRootForm : Form
   IsAskForm : Form
@@ -237,6 +238,7 @@ form_of (Pack version) = IsPackForm
 form_of (Gen generation) = IsGenForm
 form_of (Load generation) = IsLoadForm
 form_of Append = IsAppendForm
+form_of Follow = IsFollowForm
 form_of Upgrade = IsUpgradeForm
 form_of (Root at) = IsRootForm
 form_of (Ask kind key at) = IsAskForm
@@ -286,6 +288,7 @@ form_by word others =
     else (if is_word word (codes "gen") then IsGenForm
     else (if is_word word (codes "load") then IsLoadForm
     else (if is_word word (codes "append") then IsAppendForm
+    else (if is_word word (codes "follow") then IsFollowForm
     else (if is_word word (codes "upgrade") then IsUpgradeForm
     else (if is_word word (codes "root") then IsRootForm
     else (if is_word word (codes "prove") then IsProveForm
@@ -294,7 +297,7 @@ form_by word others =
     else (if is_word word (codes "trace") then trace_form others
     else (if is_word word (codes "range") then range_form others
     else (if is_word word (codes "light") then light_form others
-    else IsAskForm)))))))))))))
+    else IsAskForm))))))))))))))
 
 abbrev form_in : List (List ℕ) → Form
 form_in [] = NoForm
@@ -309,6 +312,7 @@ form_is (Pack versions.Second) = refl
 form_is (Gen generation) = refl
 form_is (Load generation) = refl
 form_is Append = refl
+form_is Follow = refl
 form_is Upgrade = refl
 form_is (Root None) = refl
 form_is (Root (Some at)) = refl
@@ -338,6 +342,7 @@ HasForm IsPackForm command = (version : BlockVersion) × (command ≡ Pack versi
 HasForm IsGenForm command = (generation : Generation) × (command ≡ Gen generation)
 HasForm IsLoadForm command = (generation : Generation) × (command ≡ Load generation)
 HasForm IsAppendForm command = command ≡ Append
+HasForm IsFollowForm command = command ≡ Follow
 HasForm IsUpgradeForm command = command ≡ Upgrade
 HasForm IsRootForm command = (at : Option ℕ) × (command ≡ Root at)
 HasForm IsAskForm command =
@@ -368,6 +373,7 @@ has_form (Pack version) = (version, refl)
 has_form (Gen generation) = (generation, refl)
 has_form (Load generation) = (generation, refl)
 has_form Append = refl
+has_form Follow = refl
 has_form Upgrade = refl
 has_form (Root at) = (at, refl)
 has_form (Ask kind key at) = (kind, key, at, refl)
@@ -400,6 +406,7 @@ one_of_form (Gen a) b (g, is) = subst (AreOne (Gen a)) (sym is)
 one_of_form (Load a) b (g, is) = subst (AreOne (Load a)) (sym is)
     (λ is_a is_b same. ap Load (one_generation _ a g is_a is_b same))
 one_of_form Append b is = subst (AreOne Append) (sym is) (λ is_a is_b same. refl)
+one_of_form Follow b is = subst (AreOne Follow) (sym is) (λ is_a is_b same. refl)
 one_of_form Upgrade b is = subst (AreOne Upgrade) (sym is) (λ is_a is_b same. refl)
 one_of_form (Root a) b (at, is) = subst (AreOne (Root a)) (sym is)
     (λ is_a is_b same. ap Root (one_root a at is_a is_b same))

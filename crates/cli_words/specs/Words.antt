@@ -13,7 +13,9 @@ use Rattle.cli_words.specs.declared.words.BlockVersion.{BlockVersion}
 use Rattle.cli_words.specs.declared.words.BlockVersion.TheVariants as versions
 use Rattle.cli_words.specs.declared.words.Generation.{Generation}
 use Rattle.cli_words.specs.declared.words.Command.{Command}
-use Rattle.cli_words.specs.declared.words.Command.TheVariants.{Scan, Fmt, Pack, Gen, Load, Append, Upgrade, Root, Ask, Prove, Verify, Expose}
+use Rattle.cli_words.specs.declared.words.Command.TheVariants.{Scan, Fmt, Pack, Gen, Load, Append}
+use Rattle.cli_words.specs.declared.words.Command.TheVariants.{Follow, Upgrade, Root, Ask, Prove}
+use Rattle.cli_words.specs.declared.words.Command.TheVariants.{Verify, Expose}
 use Rattle.cli_words.specs.declared.words.Command.TheVariants.{Trace, ProveTrace, VerifyTrace}
 use Rattle.cli_words.specs.declared.words.Command.TheVariants.{Range, ProveRange, VerifyRange}
 use Rattle.cli_words.specs.declared.words.Command.TheVariants.{MakeLight, Light}
@@ -155,6 +157,7 @@ command_words (Pack version) = pack_words version
 command_words (Gen generation) = generation_words (codes "gen") generation
 command_words (Load generation) = generation_words (codes "load") generation
 command_words Append = codes "append" ∷ []
+command_words Follow = codes "follow" ∷ []
 command_words Upgrade = codes "upgrade" ∷ []
 command_words (Root at) = root_words at
 command_words (Ask kind key at) = ask_words kind key at
@@ -180,6 +183,7 @@ CanBeGiven (Pack version) = Unit {0}
 CanBeGiven (Gen generation) = IsGeneration generation
 CanBeGiven (Load generation) = IsGeneration generation
 CanBeGiven Append = Unit {0}
+CanBeGiven Follow = Unit {0}
 CanBeGiven Upgrade = Unit {0}
 CanBeGiven (Root at) = Fits at
 CanBeGiven (Ask kind key at) = IsKey key × Fits at

@@ -60,6 +60,9 @@ pub enum Command {
     Load(Generation),
     /// `append`: take the blocks of the input into the chain of the log.
     Append,
+    /// `follow`: deliver the blocks of the input, in whatever order they come, to a follower whose
+    /// chain is that of the log.
+    Follow,
     /// `upgrade`: mark the log, so that the blocks after this have the second version.
     Upgrade,
     /// `root` or `root BLOCK`: print the root at a block of the log, which is the last one if no
@@ -193,6 +196,9 @@ fn parse_command(words: &[String]) -> Option<Command>
     }
     if is_alone(words, "append") {
         return Some(Command::Append);
+    }
+    if is_alone(words, "follow") {
+        return Some(Command::Follow);
     }
     if is_alone(words, "upgrade") {
         return Some(Command::Upgrade);

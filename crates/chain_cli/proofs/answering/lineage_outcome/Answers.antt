@@ -9,7 +9,7 @@ use Rattle.cli_output.specs.Output.{at_or_last}
 use Rattle.cli_output.specs.Telling.{status_of_found}
 use Rattle.cli_output.specs.declared.stop.OutcomeStop.{OutcomeStop}
 use Rattle.cli_output.proofs.Ends.{asked_ends, may_end}
-use Rattle.cli_proofs.proofs.Exposes.{outcome_may, asked_has_log, found_has_log}
+use Rattle.cli_traces.proofs.cli_proofs.Exposes.{outcome_may, asked_has_log, found_has_log}
 use Rattle.chain_cli.proofs.Ends.{of_given, lineage_ends, in_order, proved_in_order}
 use Rattle.chain_cli.proofs.Runs.{asked_over, expose_over, of_over}
 use Rattle.chain_cli.proofs.answering.lineage_outcome.Goals as goal

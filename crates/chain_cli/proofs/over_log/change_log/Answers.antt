@@ -1,14 +1,15 @@
-use Rattle.std.proofs.Common.{Some, ap, sym, ◌∙◌}
+use Rattle.std.proofs.Common.{Some, ap, refl, sym, ◌∙◌}
 use Rattle.scratch_model.specs.Scratch.{is_known}
-use Rattle.cli_words.specs.declared.words.Command.TheVariants.{Append, Upgrade}
+use Rattle.cli_words.specs.declared.words.Command.TheVariants.{Append, Follow, Upgrade}
 use Rattle.block_log.specs.Log.{next_in_log}
 use Rattle.cli_append.specs.recovery.Node.{next_in_chain}
 use Rattle.cli_output.specs.Telling.{append_answer, status_of_result, upgrade_answer}
 use Rattle.cli_output.proofs.Ends.{no_start_ends}
-use Rattle.chain_cli.proofs.Runs.{append_run, refused_run, upgrade_run, with_status}
+use Rattle.chain_cli.proofs.Runs.{with_status}
+use Rattle.chain_cli.proofs.LogRuns.{append_run, follow_run, refused_run, upgrade_run}
 use Rattle.chain_cli.proofs.Ends.{answer_ends, answer_has_log, marks_log, of_given, upgrade_ends}
 use Rattle.chain_cli.proofs.Ends.{upgrade_silent, uses_both}
-use Rattle.chain_cli.proofs.Moments.{stays_twice, append_any, append_log, upgrade_any, upgrade_log}
+use Rattle.chain_cli.proofs.Moments.{stays_twice, taken_any, taken_log, upgrade_any, upgrade_log}
 use Rattle.chain_cli.proofs.over_log.change_log.Goals as goal
 
 pub returns-in-Append-clause-run : goal.returns-in-Append-clause-run
@@ -25,6 +26,21 @@ returns-in-Append-clause-run g c =
     c.in-Ok.ensures.answer
     (λ told. c.append.ensures.appends (c.start.ensures.scratch.retains.known ∙ told)))
 
+pub returns-in-Follow-clause-run : goal.returns-in-Follow-clause-run
+returns-in-Follow-clause-run g c =
+    with_status g.M.Clock.now g.M.Clock.disk g.M.Clock.told c.args.machine.now c.follow.new.machine
+    (status_of_result (append_answer c.follow.result))
+    (status_of_result c.append_answer-in-Follow.result)
+    (g.I.Source.left c.args.source.now) (g.I.Source.left c.follow.new.source)
+    (is_known (g.S.Scratch.state c.args.scratch.now)) (Some Follow) (Some c.args.command.now)
+    (ap status_of_result (sym c.append_answer-in-Follow.ensures)) (ap Some c.in-Follow.is)
+    (follow_run g.M.Clock.now g.M.Clock.disk g.M.Clock.told c.args.machine.now c.start.new.machine
+    c.follow.new.machine c.in-Ok.node c.follow.result (g.I.Source.left c.args.source.now)
+    (g.I.Source.left c.follow.new.source) (is_known (g.S.Scratch.state c.args.scratch.now))
+    c.requires.settled (c.start.ensures.stays c.requires.settled) c.start.ensures.wire.told
+    c.in-Ok.ensures.answer
+    (λ told. c.follow.ensures.follows (c.start.ensures.scratch.retains.known ∙ told)))
+
 pub returns-in_default-clause-run : goal.returns-in_default-clause-run
 returns-in_default-clause-run g c =
     with_status g.M.Clock.now g.M.Clock.disk g.M.Clock.told c.args.machine.now c.upgrade.new.machine
@@ -33,7 +49,8 @@ returns-in_default-clause-run g c =
     (g.I.Source.left c.args.source.now) (is_known (g.S.Scratch.state c.args.scratch.now))
     (Some Upgrade) (Some c.args.command.now)
     (ap status_of_result (sym c.upgrade_answer.ensures))
-    (ap Some (marks_log c.args.command.now c.requires.changes c.in_default.not-Append))
+    (ap Some (marks_log c.args.command.now c.requires.changes c.in_default.not-Append
+    c.in_default.not-Follow))
     (upgrade_run g.M.Clock.now g.M.Clock.disk g.M.Clock.told c.args.machine.now c.start.new.machine
     c.upgrade.new.machine c.in-Ok.node c.upgrade.result (g.I.Source.left c.args.source.now)
     (is_known (g.S.Scratch.state c.args.scratch.now))
@@ -52,10 +69,17 @@ returns-in-Err-clause-run g c =
 
 pub returns-in-Append-clause-goes_on : goal.returns-in-Append-clause-goes_on
 returns-in-Append-clause-goes_on g c told =
-    append_any g.M.Clock.now g.M.Clock.disk g.M.Clock.told c.args.machine.now c.start.new.machine
+    taken_any g.M.Clock.now g.M.Clock.disk g.M.Clock.told c.args.machine.now c.start.new.machine
     c.append.new.machine c.in-Ok.node c.requires.settled
     (c.start.ensures.stays c.requires.settled) (c.in-Ok.ensures.answer told)
     (c.append.ensures.goes_on (c.start.ensures.scratch.retains.known ∙ told))
+
+pub returns-in-Follow-clause-goes_on : goal.returns-in-Follow-clause-goes_on
+returns-in-Follow-clause-goes_on g c told =
+    taken_any g.M.Clock.now g.M.Clock.disk g.M.Clock.told c.args.machine.now c.start.new.machine
+    c.follow.new.machine c.in-Ok.node c.requires.settled
+    (c.start.ensures.stays c.requires.settled) (c.in-Ok.ensures.answer told)
+    (c.follow.ensures.goes_on (c.start.ensures.scratch.retains.known ∙ told))
 
 pub returns-in_default-clause-goes_on : goal.returns-in_default-clause-goes_on
 returns-in_default-clause-goes_on g c told =
@@ -72,10 +96,17 @@ returns-in-Err-clause-goes_on g c told =
 
 pub returns-in-Append-clause-log_goes_on : goal.returns-in-Append-clause-log_goes_on
 returns-in-Append-clause-log_goes_on g c =
-    append_log g.M.Clock.now g.M.Clock.disk g.M.Clock.told c.args.machine.now c.start.new.machine
+    taken_log g.M.Clock.now g.M.Clock.disk g.M.Clock.told c.args.machine.now c.start.new.machine
     c.append.new.machine c.in-Ok.node.log c.requires.settled
     (c.start.ensures.stays c.requires.settled) c.in-Ok.ensures.ready.log
     c.append.ensures.log_goes_on
+
+pub returns-in-Follow-clause-log_goes_on : goal.returns-in-Follow-clause-log_goes_on
+returns-in-Follow-clause-log_goes_on g c =
+    taken_log g.M.Clock.now g.M.Clock.disk g.M.Clock.told c.args.machine.now c.start.new.machine
+    c.follow.new.machine c.in-Ok.node.log c.requires.settled
+    (c.start.ensures.stays c.requires.settled) c.in-Ok.ensures.ready.log
+    c.follow.ensures.log_goes_on
 
 pub returns-in_default-clause-log_goes_on : goal.returns-in_default-clause-log_goes_on
 returns-in_default-clause-log_goes_on g c =
@@ -100,17 +131,27 @@ returns-in_default-clause-silent g c at_end =
 pub returns-in-Append-clause-ends : goal.returns-in-Append-clause-ends
 returns-in-Append-clause-ends g c = of_given (status_of_result c.append_answer.result)
     c.args.command.now Append c.in-Append.is
-    (rw c.append_answer.ensures (answer_ends c.append.result))
+    (rw c.append_answer.ensures (answer_ends Append refl c.append.result))
+
+pub returns-in-Follow-clause-ends : goal.returns-in-Follow-clause-ends
+returns-in-Follow-clause-ends g c = of_given (status_of_result c.append_answer-in-Follow.result)
+    c.args.command.now Follow c.in-Follow.is
+    (rw c.append_answer-in-Follow.ensures (answer_ends Follow refl c.follow.result))
 
 pub returns-in_default-clause-ends : goal.returns-in_default-clause-ends
 returns-in_default-clause-ends g c = of_given (status_of_result c.upgrade_answer.result)
     c.args.command.now Upgrade
-    (marks_log c.args.command.now c.requires.changes c.in_default.not-Append)
+    (marks_log c.args.command.now c.requires.changes c.in_default.not-Append
+    c.in_default.not-Follow)
     (rw c.upgrade_answer.ensures (upgrade_ends c.upgrade.result c.upgrade.ensures.reads))
 
 pub returns-in-Append-clause-no_log : goal.returns-in-Append-clause-no_log
 returns-in-Append-clause-no_log g c none =
     absurd (cc (rw c.append_answer.ensures at none, answer_has_log c.append.result))
+
+pub returns-in-Follow-clause-no_log : goal.returns-in-Follow-clause-no_log
+returns-in-Follow-clause-no_log g c none =
+    absurd (cc (rw c.append_answer-in-Follow.ensures at none, answer_has_log c.follow.result))
 
 pub returns-in-Err-clause-ends : goal.returns-in-Err-clause-ends
 returns-in-Err-clause-ends g c =

@@ -3,13 +3,14 @@ use Rattle.block_codec.specs.Reading.{block_in}
 use Rattle.block_log.specs.Log.{next_in_log}
 use Rattle.scratch_model.specs.Scratch.{is_known}
 use Rattle.block_codec.proofs.WholeBlocks.{decided}
-use Rattle.cli_proofs.specs.chain_exec.Compiled.{compiled_in}
+use Rattle.cli_append.specs.chain_exec.Compiled.{compiled_in}
 use Rattle.cli_append.specs.recovery.Node.{next_in_chain}
 use Rattle.cli_output.specs.Uses.{changes_log}
 use Rattle.chain_cli.proofs.Runs.{with_status}
 use Rattle.chain_cli.proofs.Moments.{any_command}
 use Rattle.chain_cli.proofs.OneOutput.{compiled_by}
 use Rattle.chain_cli.proofs.HeldLights.{made_light_files_are_whole}
+use Rattle.chain_cli.proofs.Followed.{followed_chains}
 use Rattle.chain_cli.proofs.run.run.Goals as goal
 
 pub returns-clause-output : goal.returns-clause-output
@@ -44,3 +45,6 @@ returns-clause-log_goes_on g c = (
 
 pub returns-clause-light_made : goal.returns-clause-light_made
 returns-clause-light_made g c = made_light_files_are_whole
+
+pub returns-clause-followed : goal.returns-clause-followed
+returns-clause-followed g c = followed_chains

@@ -52,7 +52,10 @@ returns-in-Light-clause-no_log g c none =
 pub returns-in_default-clause-run : goal.returns-in_default-clause-run
 returns-in_default-clause-run g c =
     found_run g.M.Clock.now g.M.Clock.disk g.M.Clock.told c.args.machine.now c.find-found.new.machine c.tell.new.machine (Some c.args.command.now) c.find-found.result c.tell.result (g.I.Source.left c.args.source.now) (g.I.Source.left c.find-found.new.source) (is_known (g.S.Scratch.state c.args.scratch.now))
-    (others_keep c.args.command.now c.in_default.not-Append c.in_default.not-Upgrade) c.requires.settled c.find-found.ensures.machine.stays c.find-found.ensures.machine.wire.told c.tell.ensures.disk.stays (c.tell.ensures.tells next_in_chain) c.find-found.ensures.found
+    (others_keep c.args.command.now c.in_default.not-Append c.in_default.not-Follow
+    c.in_default.not-Upgrade) c.requires.settled c.find-found.ensures.machine.stays
+    c.find-found.ensures.machine.wire.told c.tell.ensures.disk.stays
+    (c.tell.ensures.tells next_in_chain) c.find-found.ensures.found
 
 pub returns-in_default-clause-ends : goal.returns-in_default-clause-ends
 returns-in_default-clause-ends g c =

@@ -1,0 +1,31 @@
+-- The chain of a follower stays a prefix of its leader's, by any right compiler.
+use Rattle.std.proofs.Common.{◌≡◌, ℕ, ◌++◌, List, subst}
+use Rattle.block_codec.specs.declared.block.Block.{Block}
+use Rattle.chain_replay.specs.Chain.{IsChain, placement_by_mark}
+use Rattle.chain_replay.proofs.chain_exec.TheLaws.{one_compiler}
+use Rattle.cli_append.specs.chain_exec.Compiled.{Compiler, compiled_in}
+use Rattle.crash_promises.specs.Promises.{Appends}
+use Rattle.cli_output.specs.cli_follow.Following.{follow_all}
+use Rattle.cli_output.specs.cli_follow.Laws.{FollowsItsLeader}
+use Rattle.cli_output.specs.cli_follow.follow_core.follower_steps.Laws.{IsPrefixOf}
+use Rattle.cli_output.proofs.cli_follow.Leader.{follows_leader}
+use Rattle.cli_output.specs.Output.{follow_to}
+use Rattle.cli_output.specs.Showing.{FollowedChainsArePrefixes}
+
+of_law : FollowsItsLeader → (input : List ℕ) → FollowedChainsArePrefixes input
+of_law law input compile leader added frames logged is_compiler chain prefix read all
+    appends =
+    let compile_is : compile ≡ compiled_in = one_compiler.only compile is_compiler in
+    let here : IsChain compiled_in leader =
+    subst (λ (c : Compiler). IsChain c leader) compile_is chain in
+    let added_here : (follow_to compiled_in input logged).change ≡ Appends added =
+    subst (λ (c : Compiler). (follow_to c input logged).change ≡ Appends added) compile_is
+    appends in
+    let blocks : List Block =
+    (follow_all compiled_in (placement_by_mark compiled_in) logged input).done.added in
+    let same : blocks ≡ added = cc added_here in
+    subst (λ (b : List Block). IsPrefixOf (logged.blocks ++ b) leader) same
+    (law leader here logged prefix input frames read all)
+
+pub followed_chains : (input : List ℕ) → FollowedChainsArePrefixes input
+followed_chains = of_law follows_leader

@@ -1,0 +1,11 @@
+pub mod Done
+pub mod Joined
+pub mod Made
+pub mod Makings
+pub mod Answered
+pub mod Folded
+pub mod Ended
+pub mod Turns
+pub mod KnownHeld
+pub mod Delivered
+pub mod Leader

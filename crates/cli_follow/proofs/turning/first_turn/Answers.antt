@@ -1,0 +1,38 @@
+use Rattle.std.specs.Prelude.{Some}
+use Rattle.block_codec.specs.Reading.{block_in}
+use Rattle.recovery.specs.Node.{stored_placement}
+use Rattle.cli_append.proofs.ByLog.{log_taken}
+use Rattle.follow_core.specs.follower_steps.Steps.{first_turn}
+use Rattle.cli_follow.proofs.Done.{grown_first}
+use Rattle.cli_follow.proofs.Makings.{told_makes, fault_makes}
+use Rattle.cli_follow.proofs.turning.first_turn.Goals as goal
+
+pub returns-in-Ok : goal.returns-in-Ok
+returns-in-Ok g c =
+    told_makes g.M.Clock.now g.M.Clock.disk g.M.Clock.told g.M.Clock.disk_faults
+    g.M.Clock.wire_faults g.S.Scratch.state g.S.Scratch.scratch_faults c.args.machine.now
+    c.deliver.new.machine c.args.scratch.now c.deliver.new.scratch c.args.follower
+    (λ state. Some (first_turn stored_placement state c.args.index c.args.bytes))
+    (λ state. grown_first state c.args.index c.args.bytes)
+    (λ known state content is there. c.deliver.ensures.images known state content is there)
+    (λ content there. log_taken g.M.Clock.now g.M.Clock.disk c.args.machine.now
+    c.deliver.new.machine c.args.follower.node.log content (block_in c.args.bytes)
+    c.requires.ready.log there c.deliver.ensures.log_images) c.deliver.ensures.wire
+    c.tell_turn.new.machine c.in-Ok.next c.in-Ok.turn c.tell_turn.result
+    (λ known state is. c.in-Ok.ensures.answer known state is) c.in-Ok.ensures.ready
+    c.in-Ok.ensures.untouched c.in-Ok.ensures.disk_cause (λ b. absurd (cc b))
+    c.in-Ok.ensures.scratch (λ b. absurd (cc b)) c.tell_turn.ensures
+
+pub returns-in-Err : goal.returns-in-Err
+returns-in-Err g c =
+    fault_makes g.M.Clock.now g.M.Clock.disk g.M.Clock.told g.M.Clock.disk_faults
+    g.M.Clock.wire_faults g.S.Scratch.state g.S.Scratch.scratch_faults c.args.machine.now
+    c.deliver.new.machine c.args.scratch.now c.deliver.new.scratch c.args.follower
+    (λ state. Some (first_turn stored_placement state c.args.index c.args.bytes))
+    (λ state. grown_first state c.args.index c.args.bytes)
+    (λ known state content is there. c.deliver.ensures.images known state content is there)
+    (λ content there. log_taken g.M.Clock.now g.M.Clock.disk c.args.machine.now
+    c.deliver.new.machine c.args.follower.node.log content (block_in c.args.bytes)
+    c.requires.ready.log there c.deliver.ensures.log_images) c.deliver.ensures.wire
+    c.in-Err.fault c.stop_of.result c.stop_of.ensures c.in-Err.ensures.disk_cause
+    c.in-Err.ensures.scratch

@@ -1,0 +1,4 @@
+pub mod Counted
+pub mod Decisions
+pub mod Delivered
+pub mod Drained

@@ -1,0 +1,13 @@
+//! A follower: a node that takes the blocks of its leader's chain in any order. Its chain is always
+//! a prefix of the leader's.
+#![tactic(auto)]
+
+mod deciding;
+mod delivering;
+mod draining;
+mod follower;
+mod turn;
+
+pub use follower::Follower;
+pub use follower_steps::{Cause, MAX_AHEAD, Waiting};
+pub use turn::{FollowFault, Turn};

@@ -1,0 +1,4 @@
+pub mod Steps
+pub mod Events
+pub mod Laws
+pub use Rattle.chain_replay.specs as chain_replay

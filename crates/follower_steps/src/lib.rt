@@ -1,0 +1,16 @@
+//! The steps of a follower, which takes the blocks of its leader's chain in any order: what becomes
+//! of each block, and laws over all that may happen.
+#![tactic(auto)]
+
+mod cause;
+mod laws;
+mod limits;
+mod waiting;
+
+pub use cause::Cause;
+pub use chain_replay::ReceiptList;
+pub use laws::{
+    acknowledged_never_falls, deliveries_leave_none_due, follows_the_leader, waits_nearby,
+};
+pub use limits::MAX_AHEAD;
+pub use waiting::{Arrival, Waiting, arrival_in, arrival_of, position_of};
