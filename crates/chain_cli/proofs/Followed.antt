@@ -1,5 +1,7 @@
 -- The chain of a follower stays a prefix of its leader's, by any right compiler.
-use Rattle.std.proofs.Common.{◌≡◌, ℕ, ◌++◌, List, subst}
+use Rattle.std.proofs.Common.{◌≡◌, ℕ, ◌++◌, List, subst, sym, ap, ◌∙◌, append_assoc}
+use Rattle.std.specs.Prelude.{take, drop}
+use Rattle.std.proofs.lemmas.List.{take-append-drop}
 use Rattle.block_codec.specs.declared.block.Block.{Block}
 use Rattle.chain_replay.specs.Chain.{IsChain, placement_by_mark}
 use Rattle.chain_replay.proofs.chain_exec.TheLaws.{one_compiler}
@@ -11,6 +13,18 @@ use Rattle.cli_output.specs.cli_follow.follow_core.follower_steps.Laws.{IsPrefix
 use Rattle.cli_output.proofs.cli_follow.Leader.{follows_leader}
 use Rattle.cli_output.specs.Output.{follow_to}
 use Rattle.cli_output.specs.Showing.{FollowedChainsArePrefixes}
+
+-- a chain with some first ones of these blocks is a prefix of what the chain with all of them is
+part_is_prefix : (first added leader : List Block) (count : ℕ)
+    → IsPrefixOf (first ++ added) leader → IsPrefixOf (first ++ take count added) leader
+part_is_prefix first added leader count (rest, is) = (
+  drop count added ++ rest,
+  append_assoc first (take count added) (drop count added ++ rest)
+      ∙ ap (λ (l : List Block). first ++ l)
+      (sym (append_assoc (take count added) (drop count added) rest)
+      ∙ ap (λ (l : List Block). l ++ rest) (take-append-drop count added))
+      ∙ sym (append_assoc first added rest) ∙ is,
+)
 
 of_law : FollowsItsLeader → (input : List ℕ) → FollowedChainsArePrefixes input
 of_law law input compile leader added frames logged is_compiler chain prefix read all
@@ -24,8 +38,10 @@ of_law law input compile leader added frames logged is_compiler chain prefix rea
     let blocks : List Block =
     (follow_all compiled_in (placement_by_mark compiled_in) logged input).done.added in
     let same : blocks ≡ added = cc added_here in
+    let whole : IsPrefixOf (logged.blocks ++ added) leader =
     subst (λ (b : List Block). IsPrefixOf (logged.blocks ++ b) leader) same
-    (law leader here logged prefix input frames read all)
+    (law leader here logged prefix input frames read all) in
+    (whole, λ count. part_is_prefix logged.blocks added leader count whole)
 
 pub followed_chains : (input : List ℕ) → FollowedChainsArePrefixes input
 followed_chains = of_law follows_leader

@@ -2,7 +2,7 @@
 -- ancestors that `trace verify` prints and the versions that `range verify` prints prove, what the
 -- answers that `light` prints prove, and whose chain `follow` goes on with.
 use Rattle.std.specs.Prelude.{◌≡◌, ◌≢◌, ◌⊎◌, ◌≤◌, ℕ, ◌+◌, List, [], ◌∷◌, ◌++◌, map, Some}
-use Rattle.std.specs.Prelude.{Result, Ok, IfOk}
+use Rattle.std.specs.Prelude.{take, Result, Ok, IfOk}
 use Rattle.std.specs.List.{All}
 use Rattle.hex.specs.Hex.{decode_of}
 use Rattle.lc_base.specs.declared.answer.Answer.{Answer}
@@ -168,7 +168,8 @@ MadeLightFilesAreWhole =
 
 -- If the chain of the log is a prefix of a leader's chain, and each frame of the input has one of
 -- the leader's blocks, in any order and any number of times, then the chain of the log with the
--- blocks that `follow` appends to it is a prefix of the leader's.
+-- blocks that `follow` appends to it, or with any number of the first ones of these, as a crash may
+-- leave it, is a prefix of the leader's.
 abbrev pub FollowedChainsArePrefixes : List ℕ → Type 0
 FollowedChainsArePrefixes input =
     (compile : Compiler) (leader added : List Block) (frames : List (List ℕ)) (logged : Logged)
@@ -176,3 +177,4 @@ FollowedChainsArePrefixes input =
     → AreFramesOf 0 input frames → All (IsFrameOf leader) frames
     → (follow_to compile input logged).change ≡ Appends added
     → IsPrefixOf (logged.blocks ++ added) leader
+    × ((count : ℕ) → IsPrefixOf (logged.blocks ++ take count added) leader)
