@@ -25,11 +25,16 @@ CHAINS = [(30, 7), (45, 11)]
 OF_ANSWERS, OF_TRACES, OF_RANGES, OF_LIGHTS = DrawnAnswers(), Traces(), Ranges(), Lights()
 TURN = [OF_ANSWERS, OF_TRACES, OF_RANGES, OF_ANSWERS, OF_TRACES, OF_RANGES, OF_ANSWERS, OF_LIGHTS]
 LIMIT = 300
-# What each run may come to that prints something other than an answer, so that none of it is left untried; and the
-# answers.
-CAUSES = """malformed query root leaf path link body list trace_late trace_two trace_extra trace_order trace_header
-    trace_body trace_missing unknown digest truncated length odd at light usage""".split()
-ANSWERS = "none tx_int tx_text gone deps uses ancestors versions proof".split()
+# What the runs of each command must come to, so that none of it is left untried: each check that refuses, each fault of
+# an input, and each answer.
+OF_ROOT = "malformed root leaf path link body"
+OF_ANSWER = "none tx_int tx_text gone deps uses"
+OUTCOMES = {
+    "verify": f"{OF_ROOT} query list odd at usage {OF_ANSWER}",
+    "trace": f"{OF_ROOT} query late two extra order header trace_body missing odd at none ancestors",
+    "range": f"{OF_ROOT} query odd at usage versions",
+    "light": f"{OF_ROOT} list unknown digest truncated length light none tx_int tx_text deps uses",
+}
 
 
 @dataclasses.dataclass
@@ -124,27 +129,33 @@ def asked_of_batch(program, seed, places):
 
 
 def outcomes(run):
-    """What a run comes to, and each proof of it."""
+    """What a run comes to, and each proof of it, behind the first word of its command."""
     told, _ = run.wanted
     for line in told.splitlines():
-        words = line.removeprefix("proof ").split() if line.startswith("proof ") else line.split()
-        if line.startswith("proof "):
-            yield "proof" if words[1] != "rejected" else words[2]
-        elif words[0] == "rejected":
-            yield "_".join(words[1:3]) if words[1] == "trace" else words[1]
-        elif words[0] == "refused":
-            yield words[3]
-        elif words[0] == "badinput":
-            yield words[1]
-        elif words[0] in ("usage", "none", "versions"):
-            yield words[0]
-        elif words[0] == "block":
-            yield words[2] if words[2] != "tx" else words[4] if words[4] == "gone" else f"tx_{words[4]}"
+        outcome = outcome_of(line.split())
+        if outcome:
+            yield f"{run.words[0]} {outcome}"
+
+
+def outcome_of(words):
+    """What a line comes to; nothing where it goes on with an answer, or names a proof that is accepted."""
+    if words[0] == "proof":
+        return words[3] if words[2] == "rejected" else None
+    if words[:2] == ["rejected", "trace"]:
+        return "trace_body" if words[2] == "body" else words[2]
+    if words[0] in ("rejected", "badinput"):
+        return words[1]
+    if words[0] == "refused":
+        return words[3]
+    if words[0] == "block":
+        return words[2] if words[2] != "tx" else words[4] if words[4] == "gone" else f"tx_{words[4]}"
+    return words[0] if words[0] in ("usage", "none", "versions") else None
 
 
 def missing(counts):
     """Which outcomes there were none of."""
-    return [outcome for outcome in [*CAUSES, *ANSWERS] if not counts[outcome]]
+    wanted = [f"{command} {outcome}" for command, all_of_it in OUTCOMES.items() for outcome in all_of_it.split()]
+    return [outcome for outcome in wanted if not counts[outcome]]
 
 
 def is_typed(run):

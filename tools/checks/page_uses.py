@@ -15,6 +15,8 @@ from places import TOP
 
 MAGICS = [MAGIC, b"LCT1", b"LCR1"]
 VERDICTS = {0: "accepted", 1: "words", 8: "unreadable", 10: "refused", 11: "unreadable"}
+# The verdict of a light file without proofs, of which nothing is told.
+NO_PROOFS = "words"
 SAMPLES = ["trace", "range", "hist", "back", "fwd", "light", "changed"]
 # Of a picture so many versions are drawn at once.
 DRAWN = 80
@@ -37,6 +39,7 @@ ASKS = """
 """
 NO_DIGESTS = 'Object.defineProperty(Crypto.prototype, "subtle", {get: () => undefined});'
 WRONG_DIGESTS = "SubtleCrypto.prototype.digest = async () => new ArrayBuffer(32);"
+FAILING_DIGESTS = "SubtleCrypto.prototype.digest = async () => { throw new Error('none today'); };"
 SMALL, DARK = {"width": 390, "height": 844, "deviceScaleFactor": 2, "mobile": True}, "dark"
 
 
@@ -90,7 +93,7 @@ def check_typed(checks, page, runs):
         shown = page.check(run.words, **given[next(turn) % len(given)])
         told, status = run.wanted
         checks.same(f"{run.name}, typed", (shown["told"], shown["status"]), run.wanted)
-        checks.same(f"{run.name}, its verdict", shown["verdict"], VERDICTS[status])
+        checks.same(f"{run.name}, its verdict", shown["verdict"], VERDICTS[status] if told else NO_PROOFS)
         checks.holds(f"{run.name} is shown", shown["visible"] or not told)
         if run.words[0] == "trace" and status == 0 and told != "none\n" and told.count("\n") < DRAWN:
             versions = sorted([start_of(run, told), *told.splitlines()[1:]])
@@ -163,11 +166,16 @@ def example(name):
         return file.read()
 
 
+def example_bytes(name):
+    with open(f"{TOP}/examples/{name}", "rb") as file:
+        return file.read()
+
+
 def check_story(checks, page):
     """The page shows of the proofs of the story what that says, and of the one without a lot."""
     story, page_word = example("recall.md"), "return document.querySelector('#verdict .word').textContent"
     root = re.search(r"root=([0-9a-f]{64})", story)[1]
-    of_lots, of_bags = (example(f"recall-{name}.proof") for name in ("d1", "s3"))
+    of_lots, of_bags = (example(f"spinach-{name}.proof") for name in ("d1", "s3"))
     less = of_lots[:830] + "00000002" + of_lots[838:870] + of_lots[902:]
     asked = ["verify", root, "fwd", "raw/farm1/d1", "4"], ["trace", "verify", root, "raw/shop/s3", "4"]
     for name, words, proof in [("d1", asked[0], of_lots), ("s3", asked[1], of_bags), ("less", asked[0], less)]:
@@ -260,21 +268,194 @@ def sample_comes_to(page):
 
 
 def check_other_digests(checks, page):
-    """The page says where its digests can't be compared; where one differs it gives no verdict, and where its own test
-    finds that, it takes no check."""
+    """The page says where its digests can't be compared; where one differs, or the browser's fail, it gives no verdict
+    and takes back what it showed, and where its own test finds that, it takes no check."""
     with opened_after(page, NO_DIGESTS):
         checks.same("the test, without digests", page.comes_to("self-test", "selfTest", "running"), "passed")
         checks.same("a check, without digests", sample_comes_to(page), ("absent", "accepted"))
-    with opened_after(page, WRONG_DIGESTS):
-        checks.same("the test, with other digests", page.comes_to("self-test", "selfTest", "running"), "failed")
-        is_shut = "return [...document.querySelectorAll('#check, [data-sample]')].every((button) => button.disabled)"
-        checks.holds("no check is taken then", page.browser.run(is_shut))
-    page.open()
-    checks.same("the test, before they differ", page.comes_to("self-test", "selfTest", "running"), "passed")
-    page.browser.run(WRONG_DIGESTS)
-    checks.same("a check, with other digests", sample_comes_to(page), ("different", "unreadable"))
+    for name, script in [("other", WRONG_DIGESTS), ("failing", FAILING_DIGESTS)]:
+        with opened_after(page, script):
+            checks.same(f"the test, with {name} digests", page.comes_to("self-test", "selfTest", "running"), "failed")
+            shut = "return [...document.querySelectorAll('#check, [data-sample]')].every((button) => button.disabled)"
+            checks.holds(f"no check is taken with {name} digests", page.browser.run(shut))
+            alarm = page.browser.run("return document.querySelector('#alarm[role=alert]').textContent")
+            checks.holds(f"{name} digests are told beside the button", "checks nothing" in alarm)
+        page.open()
+        checks.same("the test, before they differ", page.comes_to("self-test", "selfTest", "running"), "passed")
+        page.browser.run(script)
+        checks.same(f"a check, with {name} digests", sample_comes_to(page), ("different", "unreadable"))
+        checks.same(f"what is shown with {name} digests", page.browser.run(SHOWN_OF_RESULT), [])
     page.open()
     page.browser.logged("browser")
+
+
+# ---- that nothing stands which isn't so
+
+# Of what is shown of a check, what can be seen, and the text of what is told.
+SHOWN_OF_RESULT = """
+    const parts = ["told", "cause", "proofs", "picture", "meaning"].map((id) => document.getElementById(id));
+    return parts.filter((part) => part.offsetParent).map((part) => part.id);
+"""
+# The page's check, which fails; and one that changes a value of the range, or of the answer, that was checked.
+FAILING_CHECK = "LineageVerifier.check = () => { throw new RangeError('a made fault'); };"
+CHANGED_VALUE = """
+    const check = LineageVerifier.check;
+    LineageVerifier.check = (request) => {
+        const checked = check(request), {range, body} = checked.answer;
+        if (range) [range.bodies[0].value, range.bodies[1].value] = [9223372036854775807n, -9223372036854775808n];
+        else Object.assign(body, {tag: 1, value: "a  b"});
+        return checked;
+    };
+"""
+# Files that are dropped, of which some are read slowly, and a folder not at all.
+SLOW_FILES = """
+    const own = Blob.prototype.arrayBuffer;
+    Blob.prototype.arrayBuffer = async function () {
+        if (this.name === "folder") throw new DOMException("it can't be", "NotFoundError");
+        await new Promise((done) => setTimeout(done, this.name === "slow" ? 400 : 0));
+        return own.call(this);
+    };
+    window.dropFiles = (...names) => {
+        const dataTransfer = new DataTransfer();
+        for (const name of names) dataTransfer.items.add(new File(["4c43503100"], name));
+        document.getElementById("drop").dispatchEvent(
+            new DragEvent("drop", {bubbles: true, cancelable: true, dataTransfer}));
+    };
+"""
+NAMES_OF_FILES = "return [...document.querySelectorAll('#files strong')].map((name) => name.textContent)"
+
+
+def shown_text(page, selector):
+    """What is shown as the text of an element, with its blanks."""
+    return page.browser.run("return document.querySelector(arguments[0]).innerText", selector)
+
+
+def take_sample(page, name):
+    """Takes a sample, and waits for its check."""
+    before = page.browser.run(CHECKS)
+    page.browser.click(page.find(f"[data-sample={name}]"))
+    return page.shown_after(before)
+
+
+def check_forgetting(checks, page):
+    """A verdict is gone once the question or a file is another; and where a check fails, nothing of it stands."""
+    browser = page.browser
+    page.open()
+    changes = {field: lambda field=field: browser.type(page.elements[field], "1") for field in ("root", "key", "block")}
+    changes |= {
+        "kind": lambda: page.choose("kind", "fwd"),
+        "command": lambda: page.choose("command", "trace verify"),
+        "the pasted digits": lambda: page.paste("00"),
+        "the question of the proof": lambda: browser.click(page.find("#fill")),
+        "a file that is left out": lambda: browser.click(page.find("#files button")),
+        "another file": lambda: page.give_files(b"00"),
+        "clear": lambda: browser.click(page.elements["clear"]),
+    }
+    for name, change in changes.items():
+        checks.same("a sample", take_sample(page, "hist")["verdict"], "accepted")
+        change()
+        checks.same(f"the verdict after {name}", page.data("verdict", "verdict"), "none")
+        checks.same(f"what is shown after {name}", browser.run(SHOWN_OF_RESULT), [])
+    take_sample(page, "trace")
+    browser.run(FAILING_CHECK)
+    before = browser.run(CHECKS)
+    browser.click(page.elements["check"])
+    checks.same("the verdict of a check that fails", page.shown_after(before)["verdict"], "unreadable")
+    checks.same("what is shown of it", browser.run(SHOWN_OF_RESULT), [])
+    checks.holds("the fault is told", "a made fault" in shown_text(page, "#verdict"))
+    page.open()
+    take_sample(page, "hist")
+    browser.run("document.getElementById('root').value = 'ABC'")
+    before = browser.run(CHECKS)
+    browser.click(page.elements["check"])
+    checks.same("the verdict of a wrong root", page.shown_after(before)["verdict"], "words")
+    checks.same("the focus of a wrong root", page.focused(), "root")
+
+
+def check_files(checks, page):
+    """Files are taken in as they were given, whichever is read first; those that can't be read are named."""
+    browser = page.browser
+    page.open()
+    browser.run(SLOW_FILES)
+    browser.run("dropFiles('slow'); dropFiles('fast')")
+    page.wait(lambda: browser.run(NAMES_OF_FILES) == ["fast"], "the second of two files")
+    browser.wait_for("setTimeout(arguments[0], 600)")
+    checks.same("the file that was given last", browser.run(NAMES_OF_FILES), ["fast"])
+    browser.run("dropFiles('slow'); document.getElementById('clear').click()")
+    browser.wait_for("setTimeout(arguments[0], 600)")
+    checks.same("files after they are given up", browser.run(NAMES_OF_FILES), [])
+    browser.run("dropFiles('fast'); dropFiles('folder')")
+    browser.wait_for("setTimeout(arguments[0], 100)")
+    checks.same("files beside one that can't be read", browser.run(NAMES_OF_FILES), [])
+    checks.holds("that one is named", "folder can’t be read" in shown_text(page, "#proof-note"))
+    page.open()
+
+
+def check_light_uses(checks, page):
+    """Light files: without a proof, two of them, one with very many proofs that are refused, and a sample, whose files
+    others replace; each digest of each proof is worked out once more."""
+    browser, empty = page.browser, LIGHT_MAGIC + bytes(4)
+    shown = page.check(["light"], contents=[empty])
+    checks.same("a light file alone", (shown["verdict"], shown["status"]), (NO_PROOFS, 0))
+    checks.holds("that no proof is there", "no proof" in shown_text(page, "#verdict .word"))
+    shown = page.check(["light"], contents=[empty, empty])
+    checks.same("two light files", (shown["told"], shown["status"]), ("", 0))
+    checks.holds("that one is read", "2 light files: one is read" in shown_text(page, "#proof-note"))
+    shown = page.check(["light"], contents=[empty + 200_000 * b"\0\0\0\1\0"])
+    checks.same("many proofs", (shown["verdict"], shown["told"].count("\n")), ("refused", 200_000))
+    checks.same("of these so many are shown", len(browser.find("#proofs [data-proof]")), 500)
+    browser.click(page.find("#proofs li > .more"))
+    checks.same("and then more", len(browser.find("#proofs [data-proof]")), 1000)
+    browser.command("Emulation.setEmulatedMedia", media="print")
+    checks.holds("that there are more is printed", "199,000" in shown_text(page, "#proofs .more"))
+    browser.command("Emulation.setEmulatedMedia", media="")
+    take_sample(page, "light")
+    checks.same("the digests of many proofs", page.comes_to("again", "again", "none", "running"), "same")
+    of_each = browser.run(DIGESTS_OF_PROOFS, example_bytes("shelf.light").hex() + example_bytes("june-3.proofs").hex())
+    checks.holds("these are those of each", f"the same {of_each} digests" in shown_text(page, "#again"))
+    page.give_files(example_bytes("raw-a.proof"))
+    checks.same("a file after a sample", browser.run(NAMES_OF_FILES), ["given-0"])
+    checks.same("its command", browser.run("return document.getElementById('command').value"), "verify")
+    page.open()
+
+
+DIGESTS_OF_PROOFS = """
+    const {proofs} = LineageVerifier.checkHexInput({words: ["light"], hex: arguments[0]});
+    return proofs.flatMap((proof) => proof.look().steps).reduce((sum, step) => sum + step.digests.length, 0);
+"""
+
+
+def check_shown_values(checks, page):
+    """Values are shown as they are: the blanks of a text, and the digits of the least and the greatest int."""
+    page.open()
+    page.browser.run(CHANGED_VALUE)
+    take_sample(page, "hist")
+    checks.holds("blanks in a verdict", "text a  b" in shown_text(page, "#verdict .sentence"))
+    checks.holds("blanks in the chosen version", "text a  b" in shown_text(page, "#chosen"))
+    take_sample(page, "range")
+    levels = page.browser.run(
+        "return [...document.querySelectorAll('#picture svg > text[text-anchor=end]')]"
+        ".map((text) => [text.textContent, text.getBBox().x >= 0])"
+    )
+    wanted = [[str(level), True] for level in (-(2**63), 0, 2**63 - 1)]
+    checks.same("the axis of a range", levels, wanted)
+    page.open()
+    take_sample(page, "trace")
+    page.browser.type(page.find("#find"), "batch 17")
+    found = page.browser.run("return document.getElementById('found-versions').textContent")
+    checks.same("versions found by a value", found, "1 version found")
+
+
+def check_narrow(checks, page):
+    """In a narrow window nothing is wider than that."""
+    for width in (320, 390):
+        page.browser.command("Emulation.setDeviceMetricsOverride", **{**SMALL, "width": width})
+        page.open()
+        take_sample(page, "changed")
+        widest = page.browser.run("return document.documentElement.scrollWidth")
+        checks.holds(f"{widest} px in a window of {width}", widest <= width)
+    page.browser.command("Emulation.clearDeviceMetricsOverride")
+    page.open()
 
 
 # ---- how long it takes
