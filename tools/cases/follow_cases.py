@@ -8,7 +8,7 @@ import itertools
 
 from cases import changed_files
 from cases.block_files import OK, SECOND_VERSION, block_file, calls, number, sets
-from cases.block_reader import MAX_NUMBER, decoded, stands_for
+from cases.block_reader import MAX_BLOCK_BYTES, MAX_NUMBER, decoded, stands_for
 from cases.fault_cases import (
     APPEND, FRAMES, LINES, MARKED_APPEND, TELL, Append, Call, CrashCase, chain_in, created, opened, over_crashes, stored,
 )
@@ -20,7 +20,6 @@ from cases.log_cases import (
 
 FOLLOW = "follow"
 NO_PARENT = bytes(32)
-MAX_BLOCK_BYTES = 1_048_576
 
 
 def last_line(held, waiting):

@@ -1,20 +1,17 @@
-/* A Kafka cluster of one broker, for tools/checks/try-kafka: the mock cluster of librdkafka, in memory,
- * with the topics `blocks` of one partition and `frames` of three. It prints its address, and ends when its input
- * does. */
+/* A Kafka cluster of one broker, for tools/checks/try-kafka: the mock cluster of librdkafka, in memory.
+ *
+ *     kafka_broker {TOPIC PARTITIONS}
+ *
+ * It has these topics, each of so many partitions, prints its address, and ends when its input does. */
 #include <librdkafka/rdkafka.h>
 #include <librdkafka/rdkafka_mock.h>
 #include <stdio.h>
+#include <stdlib.h>
 #include <unistd.h>
 
 enum { BROKERS = 1, REPLICAS = 1 };
 
-/* The topics, and how many partitions each has. */
-static const struct {
-    const char *name;
-    int partitions;
-} topics[] = { { "blocks", 1 }, { "frames", 3 } };
-
-int main(void)
+int main(int count, char **words)
 {
     char error[256];
     rd_kafka_conf_t *settings = rd_kafka_conf_new();
@@ -30,8 +27,8 @@ int main(void)
         fprintf(stderr, "kafka_broker: no cluster\n");
         return 1;
     }
-    for (size_t n = 0; n < sizeof topics / sizeof *topics; n++) {
-        if (rd_kafka_mock_topic_create(cluster, topics[n].name, topics[n].partitions, REPLICAS)) {
+    for (int at = 1; at + 1 < count; at += 2) {
+        if (rd_kafka_mock_topic_create(cluster, words[at], atoi(words[at + 1]), REPLICAS)) {
             fprintf(stderr, "kafka_broker: no topic\n");
             return 1;
         }

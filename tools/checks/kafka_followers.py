@@ -116,7 +116,7 @@ class OneFollower:
         """Delivers what the topic has, and kills the program after so many lines, if any number is given: its lines,
         and its status."""
         with self.topic.source() as source:
-            process = log_runs.start_append(self.program, self.folder, source, "follow")
+            process = log_runs.start_storing(self.program, self.folder, source, "follow")
             told = "".join(log_runs.read_line(process) for _ in range(lines or 0))
             if lines is not None:
                 process.send_signal(signal.SIGKILL)

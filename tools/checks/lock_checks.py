@@ -13,8 +13,9 @@ from cases.log_cases import ALREADY, DISK_FAULT, DONE, SET_LOG, log_of, upgraded
 from checks.append_pairs import wait_for
 from checks.disk_calls import get, put
 from checks.edge_calls import CHANGING, FRAMES, LINES, MARKED_LOG, changes, steps
-from checks.log_runs import LINE_LIMIT, LOG, append, ask, held_frames, is_marked, known_lines, read_line, start_append
-from checks.log_runs import without_roots
+from checks.log_runs import (
+    LINE_LIMIT, LOG, ask, held_frames, is_marked, known_lines, read_line, start_storing, store, without_roots,
+)
 from checks.program_cases import EXPOSE, RAW_A_PROOF, RECALL_FILE, RECALL_LOG, RECALL_ROOTS, SET_LIGHT, USED
 
 # How many bytes of a frame are part of it.
@@ -50,7 +51,7 @@ def is_locked(folder):
 @contextlib.contextmanager
 def running_append(watched, folder):
     """An `append` whose input is a pipe that stays open; it is killed at the end, where it runs still."""
-    running = start_append(watched.program, folder, subprocess.PIPE)
+    running = start_storing(watched.program, folder, subprocess.PIPE)
     try:
         yield running
     finally:
@@ -120,7 +121,7 @@ def lock_of_a_run(checks, watched):
                 checks.same(f"line {number} of one that runs", give(running, frame), lines[number])
                 checks.holds("the lock is held", is_locked(folder))
             before = get(os.path.join(folder, LOG))
-            checks.same("a second append", append(watched.program, folder, RECALL_FILE), ("", DISK_FAULT))
+            checks.same("a second append", store(watched.program, folder, RECALL_FILE), ("", DISK_FAULT))
             checks.same("a follower meanwhile", ask(watched.program, folder, "follow"), ("", DISK_FAULT))
             checks.same("an upgrade meanwhile", ask(watched.program, folder, "upgrade"), ("", DISK_FAULT))
             checks.same("log after that", get(os.path.join(folder, LOG)), before)
@@ -131,7 +132,7 @@ def lock_of_a_run(checks, watched):
             running.kill()
             running.wait()
             wanted = "".join(known_lines(2) + PLAIN_LINES[2:]), DONE
-            checks.same("append after a kill", append(watched.program, folder, RECALL_FILE), wanted)
+            checks.same("append after a kill", store(watched.program, folder, RECALL_FILE), wanted)
             checks.holds("no lock is left", not is_locked(folder))
             checks.same("log after that", get(os.path.join(folder, LOG)), RECALL_LOG)
             checks.same("upgrade then", ask(watched.program, folder, "upgrade"), (upgraded(3), DONE))

@@ -55,18 +55,17 @@ def read_log(folder):
         return file.read()
 
 
-def append(program, folder, file, words="append"):
-    """Runs `append`, or `follow`, over the bytes of a file: what it told, and its exit status."""
-    words = [program, words]
+def store(program, folder, file, command="append"):
+    """Runs a command that stores blocks over the bytes of a file: what it told, and its exit status."""
     streams = {"input": file, "stdout": subprocess.PIPE}
-    ran = subprocess.run(words, cwd=folder, timeout=RUN_LIMIT, env=environment(), **streams)
+    ran = subprocess.run([program, command], cwd=folder, timeout=RUN_LIMIT, env=environment(), **streams)
     return without_roots(ran.stdout.decode("ascii")), ran.returncode
 
 
-def start_append(program, folder, source, words="append"):
-    """Starts `append`, or `follow`, over a source; what it tells is read line by line."""
+def start_storing(program, folder, source, command="append"):
+    """Starts a command that stores blocks over a source; what it tells is read line by line."""
     streams = {"stdin": source, "stdout": subprocess.PIPE}
-    return subprocess.Popen([program, words], cwd=folder, bufsize=0, env=environment(), **streams)
+    return subprocess.Popen([program, command], cwd=folder, bufsize=0, env=environment(), **streams)
 
 
 def read_line(process):

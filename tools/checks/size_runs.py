@@ -197,6 +197,7 @@ def full_runs():
     yield run(b"scan hist raw/a 0", whole + one_more, full, REFUSED)
     log = log_of(whole)
     yield run(b"append", one_more, "refused frame 0 full\n", REFUSED, log=log)
+    yield run(b"follow", one_more, f"dropped 0 full\nfollow blocks {MAX_BLOCKS} waiting 0\n", log=log)
     yield run(b"upgrade", None, upgraded(MAX_BLOCKS), log=log, after=log_of(whole, b""))
 
 
