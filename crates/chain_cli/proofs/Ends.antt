@@ -9,8 +9,8 @@ use Rattle.contract_parse.specs.Syntax.{Outcome as SourceOutcome}
 use Rattle.contract_check.specs.Faults.{check_fault}
 use Rattle.contract_check.specs.declared.fault.Fault.{Fault}
 use Rattle.chain_pack.specs.declared.error.PackError.{PackError}
-use Rattle.cli_append.specs.declared.ending.AppendEnd.{AppendEnd}
-use Rattle.cli_append.specs.declared.ending.AppendEnd.TheVariants as appends
+use Rattle.cli_append.specs.declared.ending.RunEnd.{RunEnd}
+use Rattle.cli_append.specs.declared.ending.RunEnd.TheVariants as appends
 use Rattle.cli_append.specs.declared.ending.RunStop.{RunStop}
 use Rattle.cli_words.specs.Words.{CanBeGiven, IsCount}
 use Rattle.cli_words.specs.declared.words.Generation.{Generation}
@@ -38,7 +38,7 @@ use Rattle.cli_output.specs.Uses.{is_frames, is_whole, keeps_bodies}
 use Rattle.cli_output.specs.Running.{MayEnd, IsSilent, found_no_log}
 use Rattle.cli_output.specs.Scanning.{EndsAsked}
 use Rattle.cli_output.specs.Telling.{status_of_result, status_of_stop, status_of_found}
-use Rattle.cli_output.specs.Telling.{OnlyReads, OnlyTells, append_answer, upgrade_answer, Tells}
+use Rattle.cli_output.specs.Telling.{OnlyReads, OnlyTells, run_answer, upgrade_answer, Tells}
 use Rattle.cli_output.specs.declared.stop.OutcomeStop.{OutcomeStop}
 use Rattle.cli_output.specs.declared.stop.OutcomeStop.TheVariants as outcomes
 use Rattle.cli_output.proofs.Ends.{may_end, asked_ends}
@@ -83,8 +83,8 @@ pack_ends version outcome found is =
 -- ---- `append`, and what uses the same
 
 pub answer_ends : (command : Command) → use_of (Some command) ≡ use_of (Some Append)
-    → (answer : Result AppendEnd RunStop)
-    → MayEnd (status_of_result (append_answer answer)) (Some command)
+    → (answer : Result RunEnd RunStop)
+    → MayEnd (status_of_result (run_answer answer)) (Some command)
 answer_ends command uses (Ok appends.Whole) = refl
 answer_ends command uses (Ok (appends.Refused frame cause)) =
     ap (λ (u : Use). is_frames u.input) uses
@@ -96,8 +96,8 @@ answer_ends command uses (Err stops.DiskFault) =
 answer_ends command uses (Err stops.ScratchFault) = ap (λ (u : Use). keeps_bodies u.chain) uses
 answer_ends command uses (Err stops.Memory) = tt
 
-pub answer_has_log : (answer : Result AppendEnd RunStop)
-    → found_no_log (status_of_result (append_answer answer)) ≡ false
+pub answer_has_log : (answer : Result RunEnd RunStop)
+    → found_no_log (status_of_result (run_answer answer)) ≡ false
 answer_has_log (Ok appends.Whole) = refl
 answer_has_log (Ok (appends.Refused frame cause)) = refl
 answer_has_log (Err stops.Unreadable) = refl

@@ -29,7 +29,7 @@ use Rattle.crash_promises.proofs.Tellings.{told_since}
 use Rattle.cli_append.specs.Appending.{AppendsAll, HasEnded as HasAppended, IsKnown, fold_lines}
 use Rattle.cli_append.specs.Appending.{fold_end, upgrade_change, Upgrades}
 use Rattle.cli_append.proofs.Frames.{with_none}
-use Rattle.cli_append.specs.declared.ending.AppendEnd.{AppendEnd}
+use Rattle.cli_append.specs.declared.ending.RunEnd.{RunEnd}
 use Rattle.cli_append.specs.declared.ending.RunStop.{RunStop}
 use Rattle.cli_append.specs.cli_lines.Outcome.{status_of}
 use Rattle.cli_append.specs.cli_lines.declared.outcome.Outcome.{Outcome}
@@ -41,7 +41,7 @@ use Rattle.cli_words.specs.declared.words.Command.TheVariants.{Append, Follow, U
 use Rattle.cli_output.specs.Output.{Output, output_of, upgrade_output, on_log, fold_ending, Wants}
 use Rattle.cli_output.specs.Uses.{changes_log, reads_input, uses_disk, uses_scratch}
 use Rattle.cli_output.specs.Running.{came_to_end, leaves, is_no_change, Meets, IsGiven, IsRun}
-use Rattle.cli_output.specs.Telling.{status_of_result, append_answer, upgrade_answer, Tells}
+use Rattle.cli_output.specs.Telling.{status_of_result, run_answer, upgrade_answer, Tells}
 use Rattle.cli_output.specs.Telling.{stop_of_outcome, start_outcome}
 use Rattle.cli_output.specs.declared.stop.OutcomeStop.{OutcomeStop}
 use Rattle.cli_output.proofs.Found.{left_given}
@@ -179,7 +179,7 @@ taken_may_leave taking input content = over_may_leave (taken taking input) conte
 
 -- a command came to the end of the frames, from this chain on
 record HasTaken (state : Option DiskState) (left : Option (List ℕ)) (logged : Logged) (took : Took)
-    (end : AppendEnd) : Type 0 where
+    (end : RunEnd) : Type 0 where
   end_is : fold_end end ≡ took.end
   left_is : left ≡ Some took.rest
   log : Rests state (λ image. chain_of next_in_chain image ≡ Some (with_blocks logged took.added))
@@ -284,7 +284,7 @@ module _ {D : Type 0} (now : D → ℕ) (disk : D → ℕ → Option DiskState)
 
   -- what becomes of the disk and of the wire, whatever is returned
   record TakesAll (old new : D) (left : Option (List ℕ)) (logged : Logged) (took : Took)
-      (result : Result AppendEnd RunStop) : Type 0 where
+      (result : Result RunEnd RunStop) : Type 0 where
     images : IsKnown (disk old (now old)) → Keeps now disk old new
         (IsPartly next_in_chain logged took.added)
     lines : IsKnown (disk old (now old)) → Telling next_in_chain now disk told old new took.lines
@@ -293,7 +293,7 @@ module _ {D : Type 0} (now : D → ℕ) (disk : D → ℕ → Option DiskState)
     ended : IfOk result (HasTaken (disk new (now new)) left logged took)
 
   append_ended : (state : Option DiskState) (left : Option (List ℕ)) (logged : Logged)
-      (input : List ℕ) (result : Result AppendEnd RunStop)
+      (input : List ℕ) (result : Result RunEnd RunStop)
       → IfOk result (HasAppended state left logged (frames_of input logged))
       → IfOk result (HasTaken state left logged (appended input logged))
   append_ended state left logged input (Ok end) ended =
@@ -301,7 +301,7 @@ module _ {D : Type 0} (now : D → ℕ) (disk : D → ℕ → Option DiskState)
   append_ended state left logged input (Err stop) ended = tt
 
   follow_ended : (state : Option DiskState) (left : Option (List ℕ)) (logged : Logged)
-      (input : List ℕ) (result : Result AppendEnd RunStop)
+      (input : List ℕ) (result : Result RunEnd RunStop)
       → IfOk result (HasFollowed state left logged (delivered_of input logged))
       → IfOk result (HasTaken state left logged (followed input logged))
   follow_ended state left logged input (Ok end) ended =
@@ -309,7 +309,7 @@ module _ {D : Type 0} (now : D → ℕ) (disk : D → ℕ → Option DiskState)
   follow_ended state left logged input (Err stop) ended = tt
 
   taken_met : (old mid new : D) (content : List ℕ) (logged : Logged) (taking : Taking)
-      (answer : Result AppendEnd RunStop) (left_old left_new : Option (List ℕ)) (input : List ℕ)
+      (answer : Result RunEnd RunStop) (left_old left_new : Option (List ℕ)) (input : List ℕ)
       → left_old ≡ Some input → chain_of next_in_chain content ≡ Some logged
       → Stays now disk old mid
       → Keeps now disk old new (MayLeave next_in_chain content
@@ -317,7 +317,7 @@ module _ {D : Type 0} (now : D → ℕ) (disk : D → ℕ → Option DiskState)
       → Telling next_in_chain now disk told old new (taking input logged).lines (is_ok answer)
       → (is_ok answer ≡ true → (taking input logged).added ≡ [] → Stays now disk mid new)
       → IfOk answer (HasTaken (disk new (now new)) left_new logged (taking input logged))
-      → Meets next_in_chain now disk told old new (status_of_result (append_answer answer)) left_old
+      → Meets next_in_chain now disk told old new (status_of_result (run_answer answer)) left_old
       left_new content (taken taking input logged)
   taken_met old mid new content logged taking (Ok end) left_old left_new input left_is is begins
       images lines unwritten ended =
@@ -352,7 +352,7 @@ module _ {D : Type 0} (now : D → ℕ) (disk : D → ℕ → Option DiskState)
 
   -- the frames were taken over the node that was started
   taken_run : (command : Option Command) (taking : Taking) → TakesFrames command taking
-      → (old mid new : D) (node : NodeState) (answer : Result AppendEnd RunStop)
+      → (old mid new : D) (node : NodeState) (answer : Result RunEnd RunStop)
       (left_old left_new : Option (List ℕ)) (held : Bool) → IsSettled (disk old (now old))
       → Stays now disk old mid → told mid ≡ told old
       → (held ≡ true → (content : List ℕ) → content_of (disk old (now old)) ≡ Some content
@@ -361,7 +361,7 @@ module _ {D : Type 0} (now : D → ℕ) (disk : D → ℕ → Option DiskState)
       → IsNodeOf node (disk mid (now mid)) blocks → left_old ≡ Some input
       → TakesAll mid new left_new (logged_in node.log blocks)
       (taking input (logged_in node.log blocks)) answer)
-      → IsRun now disk told old new (status_of_result (append_answer answer)) left_old left_new held
+      → IsRun now disk told old new (status_of_result (run_answer answer)) left_old left_new held
       block_in compiled_in command
   taken_run command taking takes old mid new node answer left_old left_new held settled begins same
       started all heard input content given_input given =
@@ -395,7 +395,7 @@ module _ {D : Type 0} (now : D → ℕ) (disk : D → ℕ → Option DiskState)
             (is_ok answer) same (all_taken.lines here)) all_taken.unwritten all_taken.ended,
       )
 
-  pub append_run : (old mid new : D) (node : NodeState) (answer : Result AppendEnd RunStop)
+  pub append_run : (old mid new : D) (node : NodeState) (answer : Result RunEnd RunStop)
       (left_old left_new : Option (List ℕ)) (held : Bool) → IsSettled (disk old (now old))
       → Stays now disk old mid → told mid ≡ told old
       → (held ≡ true → (content : List ℕ) → content_of (disk old (now old)) ≡ Some content
@@ -404,7 +404,7 @@ module _ {D : Type 0} (now : D → ℕ) (disk : D → ℕ → Option DiskState)
       → IsNodeOf node (disk mid (now mid)) blocks → left_old ≡ Some input
       → AppendsAll now disk told mid new left_new (logged_in node.log blocks)
       (frames_of input (logged_in node.log blocks)) answer)
-      → IsRun now disk told old new (status_of_result (append_answer answer)) left_old left_new held
+      → IsRun now disk told old new (status_of_result (run_answer answer)) left_old left_new held
       block_in compiled_in (Some Append)
   append_run old mid new node answer left_old left_new held settled begins same started all =
       taken_run (Some Append) appended append_takes old mid new node answer left_old left_new held
@@ -418,7 +418,7 @@ module _ {D : Type 0} (now : D → ℕ) (disk : D → ℕ → Option DiskState)
             a.ended;
       })
 
-  pub follow_run : (old mid new : D) (node : NodeState) (answer : Result AppendEnd RunStop)
+  pub follow_run : (old mid new : D) (node : NodeState) (answer : Result RunEnd RunStop)
       (left_old left_new : Option (List ℕ)) (held : Bool) → IsSettled (disk old (now old))
       → Stays now disk old mid → told mid ≡ told old
       → (held ≡ true → (content : List ℕ) → content_of (disk old (now old)) ≡ Some content
@@ -427,7 +427,7 @@ module _ {D : Type 0} (now : D → ℕ) (disk : D → ℕ → Option DiskState)
       → IsNodeOf node (disk mid (now mid)) blocks → left_old ≡ Some input
       → FollowsAll now disk told mid new left_new (logged_in node.log blocks)
       (delivered_of input (logged_in node.log blocks)) answer)
-      → IsRun now disk told old new (status_of_result (append_answer answer)) left_old left_new held
+      → IsRun now disk told old new (status_of_result (run_answer answer)) left_old left_new held
       block_in compiled_in (Some Follow)
   follow_run old mid new node answer left_old left_new held settled begins same started all =
       taken_run (Some Follow) followed follow_takes old mid new node answer left_old left_new held

@@ -19,13 +19,13 @@ ghost use Rattle.cli_output.specs.{
   Output.{answer_outcome, root_outcome, at_or_last},
   Running.{IsRun, IsSilent, MayEnd, found_no_log},
   Scanning.{EndsAsked},
-  Telling.{append_answer, status_of_result, upgrade_answer},
+  Telling.{run_answer, status_of_result, upgrade_answer},
   Uses.{changes_log, reads_input, tells_as_it_goes},
 };
 
 use crate::scan::whole_outcome;
 use chain_replay::Chain;
-use cli_append::{AppendEnd, Ending, Outcome, append, root_line, start, upgrade};
+use cli_append::{Ending, Outcome, RunEnd, append, root_line, start, upgrade};
 use cli_output::{RunStop, beyond, follow, start_outcome, tell};
 use cli_traces::Lineage;
 use cli_words::Command;
@@ -37,12 +37,12 @@ use scratch_model::Scratch;
 use std::alloc::Global;
 
 /// How the commands `append` and `follow` end, by the result of taking all frames.
-fn append_answer(answer: Result<AppendEnd, RunStop>) -> Result<Ending, RunStop>
-    ensures { result ≡ append_answer answer }
+fn run_answer(answer: Result<RunEnd, RunStop>) -> Result<Ending, RunStop>
+    ensures { result ≡ run_answer answer }
 {
     match answer {
-        Ok(AppendEnd::Whole) => Ok(Ending::Done),
-        Ok(AppendEnd::Refused { .. }) => Ok(Ending::Refused),
+        Ok(RunEnd::Whole) => Ok(Ending::Done),
+        Ok(RunEnd::Refused { .. }) => Ok(Ending::Refused),
         Err(stop) => Err(stop),
     }
 }
@@ -85,8 +85,8 @@ pub fn change_log<I: Source, M: Disk + Wire, S: Scratch>(
     let alloc = resources.alloc;
     match start(resources, machine, scratch) {
         Ok(node) => match command {
-            Command::Append => append_answer(append(alloc, source, machine, scratch, node)),
-            Command::Follow => append_answer(follow(alloc, source, machine, scratch, node)),
+            Command::Append => run_answer(append(alloc, source, machine, scratch, node)),
+            Command::Follow => run_answer(follow(alloc, source, machine, scratch, node)),
             _ => upgrade_answer(upgrade(alloc, machine, node)),
         },
         Err(error) => tell(machine, start_outcome(alloc, error)),

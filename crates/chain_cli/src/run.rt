@@ -169,7 +169,8 @@ pub fn run<I: Source, M: Disk + Wire, S: Scratch>(
     // ledger differ and have one digest.
     ensures checked { (input : List ℕ) → LightAnswersHold input }
     // Where the chain of the log is a prefix of a leader's, and the input has only blocks of the
-    // leader, in any order, the chain with the blocks that `follow` appends is a prefix of it, too.
+    // leader, in any order, the chain with the blocks that `follow` appends is a prefix of it, too,
+    // and so is it with any first ones of these.
     ensures followed { (input : List ℕ) → FollowedChainsArePrefixes input }
     // The bytes that `light make` prints over the blocks of a log are their light file.
     ensures light_made { MadeLightFilesAreWhole }

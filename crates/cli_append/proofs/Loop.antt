@@ -33,8 +33,8 @@ use Rattle.chain_input.specs.declared.taking.Turn.{Turn}
 use Rattle.chain_input.specs.declared.taking.Turn.TheVariants as turns
 use Rattle.chain_input.proofs.Folds.{folded_turn, taken_taken, FoldEnds, whole_ends}
 use Rattle.cli_append.specs.Steps.{lines_for, added_for, Takes}
-use Rattle.cli_append.specs.declared.ending.AppendEnd.{AppendEnd}
-use Rattle.cli_append.specs.declared.ending.AppendEnd.TheVariants as ends
+use Rattle.cli_append.specs.declared.ending.RunEnd.{RunEnd}
+use Rattle.cli_append.specs.declared.ending.RunEnd.TheVariants as ends
 use Rattle.cli_append.specs.declared.ending.RunStop.{RunStop}
 use Rattle.cli_append.proofs.Stored.{Stored, held, nothing_stored, then_frame, then_stop}
 use Rattle.cli_append.proofs.Promised.{added_append, added_push, lines_append}
@@ -183,7 +183,7 @@ module _ {D : Type 0} (now : D → ℕ) (disk : D → ℕ → Option DiskState)
 
   -- what was printed and left up to the end of the fold
   all_of : (old new : D) (left : Option (List ℕ)) (first : Logged) (blocks : List Block)
-      (taken : List Taken) (end : FoldEnd) (rest : List ℕ) (result : Result AppendEnd RunStop)
+      (taken : List Taken) (end : FoldEnd) (rest : List ℕ) (result : Result RunEnd RunStop)
       → (IsKnown (disk old (now old)) → Keeps now disk old new (IsPartly next_in_chain first
       (added_by_all taken))) → blocks ≡ first.blocks ++ added_by_all taken
       → (IsKnown (disk old (now old)) → Telling next_in_chain now disk told old new
@@ -204,7 +204,7 @@ module _ {D : Type 0} (now : D → ℕ) (disk : D → ℕ → Option DiskState)
         ended = at_end result is;
       }
     where
-      at_end : (result : Result AppendEnd RunStop) → IfOk result (λ answer. fold_end answer ≡ end)
+      at_end : (result : Result RunEnd RunStop) → IfOk result (λ answer. fold_end answer ≡ end)
           → IfOk result (HasEnded (disk new (now new)) left first
           (taken_before taken (ends_at end rest)))
       at_end (Ok answer) is = record {
@@ -237,7 +237,7 @@ module _ {D : Type 0} (now : D → ℕ) (disk : D → ℕ → Option DiskState)
       (stands_at node.log (held first p.blocks) (disk new (now new)) p.stored.mark_is
       p.stored.is_node.log) (λ ok. p.stored.unwritten))
 
-  refused_end : (frame count : ℕ) (cause : Cause) (result : Result AppendEnd RunStop)
+  refused_end : (frame count : ℕ) (cause : Cause) (result : Result RunEnd RunStop)
       → frame ≡ count → IfOk result (λ answer. answer ≡ ends.Refused frame cause)
       → IfOk result (λ answer. fold_end answer ≡ Refused count cause)
   refused_end frame count cause (Ok answer) number is =
@@ -247,7 +247,7 @@ module _ {D : Type 0} (now : D → ℕ) (disk : D → ℕ → Option DiskState)
   -- a frame is refused, and its line is printed
   refused_at : (old mid new : D) (node : NodeState) (count frame : ℕ)
       (left_old left_mid left : Option (List ℕ)) (first : Logged) (input : List ℕ) (cause : Cause)
-      (result : Result AppendEnd RunStop) → (p : Progress old mid node count left_old left_mid
+      (result : Result RunEnd RunStop) → (p : Progress old mid node count left_old left_mid
       first)
       → count ≤ MAX_FRAMES → frame ≡ count → (l : Leads input left_mid count first p.blocks p.taken)
       → FoldEnds (stored_placement first.marked) count p.blocks l.rest left
@@ -297,7 +297,7 @@ module _ {D : Type 0} (now : D → ℕ) (disk : D → ℕ → Option DiskState)
   -- the form of the frame is refused
   pub refused_form : (old mid new : D) (node : NodeState) (count frame : ℕ)
       (left_old left_mid left : Option (List ℕ)) (first : Logged) (input : List ℕ) (cause : Cause)
-      (result : Result AppendEnd RunStop)
+      (result : Result RunEnd RunStop)
       → (p : Progress old mid node count left_old left_mid first) → count ≤ MAX_FRAMES
       → frame ≡ count → left_old ≡ Some input → ((rest : List ℕ) → left_mid ≡ Some rest
       → FoldEnds (stored_placement first.marked) count p.blocks rest left (Refused count cause))
@@ -319,7 +319,7 @@ module _ {D : Type 0} (now : D → ℕ) (disk : D → ℕ → Option DiskState)
   -- the block of the frame is refused
   pub refused_block : (old mid next new : D) (node : NodeState) (count frame : ℕ)
       (left_old left_mid left : Option (List ℕ)) (first : Logged) (input bytes : List ℕ)
-      (refusal : Refusal) (result : Result AppendEnd RunStop)
+      (refusal : Refusal) (result : Result RunEnd RunStop)
       → (p : Progress old mid node count left_old left_mid first) → count ≤ MAX_FRAMES
       → frame ≡ count → left_old ≡ Some input → ((rest : List ℕ) → left_mid ≡ Some rest
       → FoldEnds (stored_placement first.marked) count p.blocks rest left

@@ -30,8 +30,8 @@ use Rattle.crash_promises.specs.Promises.{plain, Telling}
 use Rattle.cli_lines.specs.Lines.{refused_line}
 use Rattle.cli_append.specs.Appending.{IsKnown, AppendsAll, GoesFrom, Grows}
 use Rattle.cli_append.specs.Steps.{AppendsFrame}
-use Rattle.cli_append.specs.declared.ending.AppendEnd.{AppendEnd}
-use Rattle.cli_append.specs.declared.ending.AppendEnd.TheVariants as ends
+use Rattle.cli_append.specs.declared.ending.RunEnd.{RunEnd}
+use Rattle.cli_append.specs.declared.ending.RunEnd.TheVariants as ends
 use Rattle.cli_append.specs.declared.ending.RunStop.{RunStop}
 use Rattle.cli_append.specs.declared.ending.RunStop.TheVariants as stops
 use Rattle.cli_append.proofs.Loop.{Progress, begun, goes_on, whole_input, refused_form}
@@ -226,7 +226,7 @@ module _ {D S : Type 0} (now : D → ℕ) (disk : D → ℕ → Option DiskState
             takes.end.read (takes.end.turn_is.takes (s.retains.known ∙ known))
 
         -- a frame is refused, and its line is printed
-        module _ (new : D) (frame : ℕ) (result : Result AppendEnd RunStop) where
+        module _ (new : D) (frame : ℕ) (result : Result RunEnd RunStop) where
           by_form : (cause : Cause) → (takes : TakesInput rule first left taker
               (Ok (inputs.Refused frame cause))) → taker ≡ takes.last.taker → Stays now disk taker.0
               new

@@ -19,8 +19,8 @@ use Rattle.recovery.specs.Node.{next_in_chain, chain_in}
 use Rattle.crash_promises.specs.Promises.{Line, Holds, IsMarked, plain, Change, NoChange, Marks}
 use Rattle.crash_promises.specs.Promises.{Telling, IsPartly}
 use Rattle.cli_append.specs.Lines.{known_line, block_line}
-use Rattle.cli_append.specs.declared.ending.AppendEnd.{AppendEnd}
-use Rattle.cli_append.specs.declared.ending.AppendEnd.TheVariants as ends
+use Rattle.cli_append.specs.declared.ending.RunEnd.{RunEnd}
+use Rattle.cli_append.specs.declared.ending.RunEnd.TheVariants as ends
 use Rattle.cli_append.specs.declared.ending.RunStop.{RunStop}
 
 -- The line of a frame that was taken into a chain of these blocks. It promises that the chain has a
@@ -51,7 +51,7 @@ abbrev pub fold_lines : Compiler → List Block → Fold → List Line
 fold_lines compile blocks fold = lines_of compile blocks fold.taken ++ end_lines fold.end
 
 -- How the frames end, by what is returned.
-abbrev pub fold_end : AppendEnd → FoldEnd
+abbrev pub fold_end : RunEnd → FoldEnd
 fold_end ends.Whole = Whole
 fold_end (ends.Refused frame cause) = Refused frame cause
 
@@ -62,7 +62,7 @@ IsKnown state = is_some state ≡ true
 -- It came to the end of this fold, from this chain on: what follows what was taken of the input is
 -- left; and if the disk is known, nothing is pending, and its content stands for the chain with the
 -- blocks that the fold adds.
-pub record HasEnded (state : Option DiskState) (left : Option (List ℕ)) (logged : Logged) (fold : Fold) (end : AppendEnd) : Type 0 where
+pub record HasEnded (state : Option DiskState) (left : Option (List ℕ)) (logged : Logged) (fold : Fold) (end : RunEnd) : Type 0 where
   pub end_is : fold_end end ≡ fold.end
   pub left_is : left ≡ Some fold.left
   pub log : Rests state (λ image. chain_in image
@@ -70,7 +70,7 @@ pub record HasEnded (state : Option DiskState) (left : Option (List ℕ)) (logge
 
 -- What becomes of the disk and of the wire, whatever is returned, if this is the fold of the frames
 -- of the input from this chain on.
-pub record AppendsAll {D : Type 0} (now : D → ℕ) (disk : D → ℕ → Option DiskState) (told : D → Option (List Tell)) (old new : D) (left : Option (List ℕ)) (logged : Logged) (fold : Fold) (result : Result AppendEnd RunStop) : Type 0 where
+pub record AppendsAll {D : Type 0} (now : D → ℕ) (disk : D → ℕ → Option DiskState) (told : D → Option (List Tell)) (old new : D) (left : Option (List ℕ)) (logged : Logged) (fold : Fold) (result : Result RunEnd RunStop) : Type 0 where
   -- A crash at any moment leaves the chain from before, and the first blocks, any number of them,
   -- of those that the fold adds.
   pub images : IsKnown (disk old (now old)) → Keeps now disk old new (IsPartly next_in_chain logged

@@ -14,7 +14,7 @@ ghost use Rattle.recovery.specs.Node.{IsNodeOf, IsReady, logged_in, stored_place
 ghost use Rattle.disk_model.specs.Disk.{Keeps, content_of};
 ghost use Rattle.cli_append.specs.{Appending.{AppendsAll, GoesFrom, Grows, IsKnown}, Steps.{AppendsFrame}};
 
-use crate::ending::{AppendEnd, RunStop};
+use crate::ending::{RunEnd, RunStop};
 use crate::taking::Appender;
 use crate::telling::refuse;
 use chain_input::{InputEnd, InputStop, take_frames};
@@ -69,7 +69,7 @@ pub fn append<I: Source, M: Disk + Wire, S: Scratch>(
     machine: &mut M,
     scratch: &mut S,
     node: Node,
-) -> Result<AppendEnd, RunStop>
+) -> Result<RunEnd, RunStop>
     requires ready { IsReady node (M.disk machine.old (M.now machine.old)) (S.state scratch.old) }
     // If it is known what the source has left, and which bytes the scratch device holds, the frames
     // are taken, and their lines printed, as the fold of the input says, by the mark of the log.
@@ -104,7 +104,7 @@ pub fn append<I: Source, M: Disk + Wire, S: Scratch>(
     match take_all(alloc, source, machine, scratch, node) {
         Ok(InputEnd::Whole(longer)) => {
             longer.give_up();
-            Ok(AppendEnd::Whole)
+            Ok(RunEnd::Whole)
         }
         Ok(InputEnd::Refused { frame, cause }) => refuse(alloc, machine, frame, cause),
         Err(InputStop::Fault) => Err(RunStop::Unreadable),

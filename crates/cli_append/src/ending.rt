@@ -1,4 +1,4 @@
-//! How appending ends, and why a command stops.
+//! How `append` and `follow` end, and why a command stops.
 
 ghost use Rattle.std.specs.Prelude.{◌≡◌};
 
@@ -7,8 +7,8 @@ use lc_base::Memory;
 
 /// How taking the frames of an input came to its end.
 #[derive(Clone, Copy, Debug, PartialEq, Eq)]
-pub enum AppendEnd {
-    /// All frames of the input were taken.
+pub enum RunEnd {
+    /// All frames of the input were taken, and by `follow` the last line was printed.
     Whole,
     /// A frame was refused, and its line printed: its number in the input, from 0, and the cause.
     Refused { frame: u32, cause: Cause },

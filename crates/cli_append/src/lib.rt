@@ -1,7 +1,6 @@
 //! The commands that change a log. `append` takes the frames of an input into its chain one after
 //! another, and prints the line of a block after the block is stored; `upgrade` marks it, and
-//! prints
-//! its line then.
+//! prints its line then.
 #![tactic(auto)]
 
 mod appending;
@@ -17,7 +16,7 @@ pub use cli_lines::{
     Ending, Outcome, Status, answer_lines, beyond_line, damaged_line, digest_text, hex_after, line,
     not_a_log_line, range_lines, read_whole, refused_line, root_line, trace_lines, usage_line,
 };
-pub use ending::{AppendEnd, RunStop};
+pub use ending::{RunEnd, RunStop};
 pub use lines::{block_line, known_line};
 pub use recovery::{Node, StartError, stored_chain};
 pub use starting::start;

@@ -7,7 +7,7 @@ ghost use Rattle.block_log.specs.Standing.{NextBlock};
 ghost use Rattle.cli_lines.specs.Lines.{refused_line as refused_text};
 ghost use Rattle.crash_promises.specs.Promises.{Promise, plain, IsKeptAt, Telling};
 
-use crate::ending::{AppendEnd, RunStop};
+use crate::ending::{RunEnd, RunStop};
 use cli_lines::{Cause, refused_line};
 use lc_base::Memory;
 use lc_io::{Failed, Wire};
@@ -32,10 +32,10 @@ pub fn refuse<M: Wire>(
     machine: &mut M,
     frame: u32,
     cause: Cause,
-) -> Result<AppendEnd, RunStop>
+) -> Result<RunEnd, RunStop>
     ensures lines { (next : NextBlock) → Telling next M.now M.disk M.told machine.old machine.new
         (plain (refused_text frame cause) ∷ []) (is_ok result) }
-    ensures end { IfOk result (λ end. end ≡ AppendEnd.Refused frame cause) }
+    ensures end { IfOk result (λ end. end ≡ RunEnd.Refused frame cause) }
     ensures disk { LeavesDisk M.now M.disk M.disk_faults machine.old machine.new }
     ensures untold { HasCause (M.wire_faults machine.old) (M.wire_faults machine.new)
         (IsErrOf result RunStop.Untold) }
@@ -45,7 +45,7 @@ pub fn refuse<M: Wire>(
 {
     match refused_line(alloc, frame, &cause) {
         Ok(line) => match tell_line(machine, line.as_bytes()) {
-            Ok(()) => Ok(AppendEnd::Refused { frame, cause }),
+            Ok(()) => Ok(RunEnd::Refused { frame, cause }),
             Err(Failed) => Err(RunStop::Untold),
         },
         Err(Memory) => Err(RunStop::Memory),

@@ -10,9 +10,8 @@ use Rattle.block_codec.specs.declared.limits.TheConstants.{MAX_BLOCK_BYTES, MAX_
 use Rattle.cli_append.specs.chain_exec.Compiled.{Compiler}
 use Rattle.follow_core.specs.follower_steps.Steps.{PlacerByMark, State, started, Step, first_turn}
 use Rattle.follow_core.specs.follower_steps.Steps.{further_turn}
-use Rattle.follow_core.specs.follower_steps.Events.{acknowledged, after, state_after, delivered}
-use Rattle.follow_core.specs.follower_steps.Events as events
-use Rattle.cli_follow.specs.Following.{Followed, nothing_done, after_step, after_any, after_further}
+use Rattle.follow_core.specs.follower_steps.Events.{acknowledged, after, after_further, state_after}
+use Rattle.cli_follow.specs.Following.{Followed, nothing_done, after_step, after_any, after_more}
 use Rattle.cli_follow.specs.Following.{after_frame, FollowFold, follow_step, follow_from}
 use Rattle.cli_follow.specs.Laws.{FramesAreDelivered, InputsHaveFrames, InputsAreDelivered}
 use Rattle.cli_follow.specs.Laws.{AreFramesOf, deliveries}
@@ -25,12 +24,12 @@ any_state compile done None = refl
 any_state compile done (Some step) = refl
 
 further_state : (compile : Compiler) (place : PlacerByMark) (n : ℕ) (done : Followed)
-    → (after_further compile place n done).state ≡ events.after_further place n done.state
+    → (after_more compile place n done).state ≡ after_further place n done.state
 further_state compile place zero done = refl
 further_state compile place (suc n) done =
     let step : Option Step = further_turn place done.state in
     further_state compile place n (after_any compile done step)
-    ∙ ap (λ (s : State). events.after_further place n s) (any_state compile done step)
+    ∙ ap (λ (s : State). after_further place n s) (any_state compile done step)
 
 pub frames_delivered : FramesAreDelivered
 frames_delivered compile place done index bytes =

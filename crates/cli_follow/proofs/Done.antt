@@ -22,7 +22,7 @@ use Rattle.follow_core.specs.follower_steps.Steps.{PlacerByMark, State, Step, ju
 use Rattle.follow_core.specs.follower_steps.Steps.{arrived, arrival_in, first_turn, further_turn}
 use Rattle.follow_core.specs.follower_steps.Steps.{without, turn_at, position_of}
 use Rattle.cli_follow.specs.Following.{held_promise, turn_line, added_in, Followed, nothing_done}
-use Rattle.cli_follow.specs.Following.{after_step, after_any, after_further, after_all}
+use Rattle.cli_follow.specs.Following.{after_step, after_any, after_more, after_all}
 use Rattle.cli_follow.specs.Following.{all_acknowledged, after_frame}
 use Rattle.cli_follow.specs.Steps.{chain_held}
 
@@ -50,10 +50,6 @@ more_more one two three =
 
 module _ (compile : Compiler) where
   -- a step after what was done is that step from its state
-  pub after_step_from : (done : Followed) (step : Step) → after_step compile done step
-      ≡ more_done done (after_step compile (nothing_done done.state) step)
-  after_step_from done step = refl
-
   pub after_any_from : (done : Followed) (step : Option Step) → after_any compile done step
       ≡ more_done done (after_any compile (nothing_done done.state) step)
   after_any_from done None = sym (more_none done)
@@ -61,20 +57,20 @@ module _ (compile : Compiler) where
 
 module _ (compile : Compiler) (place : PlacerByMark) where
   -- further turns after what was done are those from its state
-  pub after_further_from : (n : ℕ) (done : Followed) → after_further compile place n done
-      ≡ more_done done (after_further compile place n (nothing_done done.state))
-  after_further_from zero done = sym (more_none done)
-  after_further_from (suc n) done =
+  pub after_more_from : (n : ℕ) (done : Followed) → after_more compile place n done
+      ≡ more_done done (after_more compile place n (nothing_done done.state))
+  after_more_from zero done = sym (more_none done)
+  after_more_from (suc n) done =
       let step : Option Step = further_turn place done.state in
       let start : Followed = after_any compile (nothing_done done.state) step in
-      ap (λ (d : Followed). after_further compile place n d) (after_any_from compile done step)
-      ∙ after_further_from n (more_done done start)
-      ∙ more_more done start (after_further compile place n (nothing_done start.state))
-      ∙ ap (more_done done) (sym (after_further_from n start))
+      ap (λ (d : Followed). after_more compile place n d) (after_any_from compile done step)
+      ∙ after_more_from n (more_done done start)
+      ∙ more_more done start (after_more compile place n (nothing_done start.state))
+      ∙ ap (more_done done) (sym (after_more_from n start))
 
   pub after_all_from : (done : Followed) → after_all compile place done
       ≡ more_done done (after_all compile place (nothing_done done.state))
-  after_all_from done = after_further_from (length done.state.waiting) done
+  after_all_from done = after_more_from (length done.state.waiting) done
 
   -- what all further turns after both do
   after_both : (done start : Followed) → after_all compile place (more_done done start)
@@ -169,6 +165,7 @@ grown_decided state index bytes =
 arrived_grown : (state : State) (index : ℕ) (bytes : List ℕ) (arrival : Arrival) → Grown state
     (after_step compiled_in (nothing_done state)
     (arrived stored_placement state index bytes arrival))
+arrived_grown state index bytes (arrivals.Held number) = grown_decided state index bytes
 arrived_grown state index bytes arrivals.Due = grown_decided state index bytes
 arrived_grown state index bytes (arrivals.Early number) =
     grown_step state (arrived stored_placement state index bytes (arrivals.Early number))
@@ -205,14 +202,14 @@ grown_any state = at_grown state (position_of (length state.blocks) state.waitin
 
 -- so many further turns
 pub grown_further : (n : ℕ) (state : State) → Grown state
-    (after_further compiled_in stored_placement n (nothing_done state))
+    (after_more compiled_in stored_placement n (nothing_done state))
 grown_further zero state = grown_none state
 grown_further (suc n) state =
     let start : Followed = after_any compiled_in (nothing_done state)
     (further_turn stored_placement state) in
-    subst (Grown state) (sym (after_further_from compiled_in stored_placement n start))
+    subst (Grown state) (sym (after_more_from compiled_in stored_placement n start))
     (grown_more state start
-    (after_further compiled_in stored_placement n (nothing_done start.state)) (grown_any state)
+    (after_more compiled_in stored_placement n (nothing_done start.state)) (grown_any state)
     (grown_further n start.state))
 
 -- all further turns

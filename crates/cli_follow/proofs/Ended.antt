@@ -16,7 +16,7 @@ use Rattle.recovery.specs.Node.{next_in_chain, chain_in}
 use Rattle.crash_promises.specs.Promises.{Line, plain, IsPartly, Telling}
 use Rattle.crash_promises.proofs.Tellings.{longer, still}
 use Rattle.cli_append.specs.Appending.{IsKnown, GoesFrom, fold_end}
-use Rattle.cli_append.specs.declared.ending.AppendEnd.{AppendEnd}
+use Rattle.cli_append.specs.declared.ending.RunEnd.{RunEnd}
 use Rattle.cli_append.specs.declared.ending.RunStop.{RunStop}
 use Rattle.cli_append.proofs.Frames.{stands_at, with_none}
 use Rattle.follow_core.specs.Follower.{FollowerState, IsFollowerOf}
@@ -75,7 +75,7 @@ module _ {D : Type 0} (now : D → ℕ) (disk : D → ℕ → Option DiskState)
       still_is (Err stop) = tt
 
   has_followed : (new : D) (left : Option (List ℕ)) (state : State) (done : Followed)
-      (follower : FollowerState) (end : FoldEnd) (rest : List ℕ) (result : Result AppendEnd RunStop)
+      (follower : FollowerState) (end : FoldEnd) (rest : List ℕ) (result : Result RunEnd RunStop)
       → Grown state done → left ≡ Some rest → IfOk result (λ answer. fold_end answer ≡ end)
       → IfOk result (λ answer. IsFollowerOf follower (disk new (now new)) done.state)
       → IfOk result (HasFollowed (disk new (now new)) left (chain_held state)
@@ -93,7 +93,7 @@ module _ {D : Type 0} (now : D → ℕ) (disk : D → ℕ → Option DiskState)
   -- all frames were delivered, and the last line is printed
   pub then_line : (old mid new : D) (left : Option (List ℕ)) (state : State) (done : Followed)
       (follower : FollowerState) (end : FoldEnd) (rest : List ℕ)
-      (result : Result AppendEnd RunStop)
+      (result : Result RunEnd RunStop)
       → Follows now disk told old mid state done (λ f. f) (Ok follower) → Grown state done
       → left ≡ Some rest → IfOk result (λ answer. fold_end answer ≡ end)
       → Stays now disk mid new

@@ -43,6 +43,8 @@ decided_known state index bytes number turned =
 arrived_known : (state : State) (index : ℕ) (bytes : List ℕ) (arrival : Arrival) (number : ℕ)
     → (arrived stored_placement state index bytes arrival).turned ≡ Known number
     → is_some (slice_get state.blocks number) ≡ true
+arrived_known state index bytes (arrivals.Held held) number turned =
+    decided_known state index bytes number turned
 arrived_known state index bytes arrivals.Due number turned =
     decided_known state index bytes number turned
 arrived_known state index bytes (arrivals.Early early) number turned = absurd (cc turned)

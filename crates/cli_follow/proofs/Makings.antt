@@ -1,8 +1,8 @@
 -- What the turns of a delivery do, whatever is known of the devices.
-use Rattle.std.proofs.Common.{◌≡◌, inl, inr, ℕ, Bool, true, false, List, [], ◌∷◌, refl, sym, ◌∙◌}
-use Rattle.std.proofs.Common.{ap, subst, eqb, true≢false}
+use Rattle.std.proofs.Common.{◌≡◌, inl, inr, ℕ, Bool, true, false, List, [], ◌∷◌, length, refl, sym}
+use Rattle.std.proofs.Common.{◌∙◌, ap, subst, eqb, true≢false}
 use Rattle.std.proofs.lemmas.Bool.{cases_Bool, eqb-true, eq-eqb}
-use Rattle.std.specs.Prelude.{Option, Some, None, Result, Ok, Err, IsErrOf}
+use Rattle.std.specs.Prelude.{Option, Some, None, is_some, Result, Ok, Err, IsErrOf}
 use Rattle.lc_base.specs.Faults.{HasCause}
 use Rattle.lc_io.specs.Disk.{DiskState}
 use Rattle.lc_io.specs.Outside.{Tell}
@@ -33,17 +33,23 @@ use Rattle.follow_core.specs.declared.turn.FollowFault.{FollowFault}
 use Rattle.follow_core.specs.declared.turn.FollowFault.TheVariants as faults
 use Rattle.follow_core.specs.follower_steps.declared.waiting.Waiting.{Waiting}
 use Rattle.follow_core.specs.follower_steps.Steps.{State, Step, first_turn, further_turn}
+use Rattle.follow_core.specs.follower_steps.Steps.{position_of}
 use Rattle.follow_core.specs.follower_steps.Events.{state_after}
-use Rattle.cli_follow.specs.Following.{Followed, nothing_done, after_step, after_any, after_all}
-use Rattle.cli_follow.specs.Following.{all_acknowledged, after_frame}
+use Rattle.follow_core.proofs.Drained.{none_further}
+use Rattle.cli_follow.specs.Following.{Followed, nothing_done, after_step, after_any}
+use Rattle.cli_follow.specs.Following.{after_all, all_acknowledged, after_frame}
 use Rattle.cli_follow.specs.Lines.{turn_text}
 use Rattle.cli_follow.specs.Steps.{Follows, Makes, TellsTurn, stop_of}
 use Rattle.cli_follow.proofs.Done.{Grown, more_done, after_any_from, after_all_from, grown_none}
 use Rattle.cli_follow.proofs.Done.{grown_more, grown_first, grown_any}
 use Rattle.cli_follow.proofs.Joined.{then_follows, stop_follows, none_follows, not_followed}
 use Rattle.cli_follow.proofs.Joined.{acknowledged_follows}
-use Rattle.cli_follow.proofs.Made.{all_further, none_left, none_made, if_follower, any_follows}
-use Rattle.cli_follow.proofs.Made.{none_any, fault_follows}
+use Rattle.cli_follow.proofs.Made.{all_further, none_left, none_made, told_by, if_told, blames_told}
+use Rattle.cli_follow.proofs.Made.{told_blames, any_follows, none_any, fault_follows}
+
+not_some : (found : Option ℕ) → is_some found ≡ false → found ≡ None
+not_some None is = refl
+not_some (Some at) is = absurd (cc is)
 
 -- ---- who is blamed
 
@@ -98,19 +104,16 @@ module _ {D : Type 0} (now : D → ℕ) (disk : D → ℕ → Option DiskState)
       (record { text = b; promise = promise } ∷ []) all) is (lines next promise here)
 
   -- it was printed
-  pub tells_whole : {B : Type 0} (old new : D) (follower : FollowerState) (bytes text : List ℕ)
-      → bytes ≡ text
+  pub tells_whole : {B : Type 0} (old new : D) (bytes text : List ℕ) → bytes ≡ text
       → ((next : NextBlock) (promise : Promise) → IsKeptAt next now disk old promise
       → Telling next now disk told old new (record { text = bytes; promise = promise } ∷ []) true)
       → LeavesDisk now disk disk_faults old new → HasCause (wire_faults old) (wire_faults new) B
-      → (B → ⊥)
-      → TellsTurn now disk told disk_faults wire_faults old new follower text (Ok follower)
-  tells_whole {B} old new follower bytes text is lines left cause none = record {
+      → (B → ⊥) → TellsTurn now disk told disk_faults wire_faults old new text (Ok tt)
+  tells_whole {B} old new bytes text is lines left cause none = record {
     lines = tells_text old new bytes text true is lines;
-    same = refl;
     leaves = left;
     untold = none_blamed (wire_faults old) (wire_faults new)
-        (IsErrOf {T = FollowerState} (Ok follower) stops.Untold)
+        (IsErrOf {T = Unit {0}} (Ok tt) stops.Untold)
         (unblamed (wire_faults old) (wire_faults new) B cause none) (λ b. absurd (cc b));
     reads = λ b. absurd (cc b);
     writes = λ b. absurd (cc b);
@@ -118,19 +121,16 @@ module _ {D : Type 0} (now : D → ℕ) (disk : D → ℕ → Option DiskState)
   }
 
   -- it was printed in part, or not at all
-  pub tells_part : {B : Type 0} (old new : D) (follower : FollowerState) (bytes text : List ℕ)
-      → bytes ≡ text
+  pub tells_part : {B : Type 0} (old new : D) (bytes text : List ℕ) → bytes ≡ text
       → ((next : NextBlock) (promise : Promise) → IsKeptAt next now disk old promise
       → Telling next now disk told old new (record { text = bytes; promise = promise } ∷ []) false)
       → LeavesDisk now disk disk_faults old new → HasCause (wire_faults old) (wire_faults new) B
-      → B → TellsTurn now disk told disk_faults wire_faults old new follower text
-      (Err stops.Untold)
-  tells_part {B} old new follower bytes text is lines left cause blamed = record {
+      → B → TellsTurn now disk told disk_faults wire_faults old new text (Err stops.Untold)
+  tells_part {B} old new bytes text is lines left cause blamed = record {
     lines = tells_text old new bytes text false is lines;
-    same = tt;
     leaves = left;
     untold = kept (wire_faults old) (wire_faults new) (wire_faults new) B
-        (IsErrOf {T = FollowerState} (Err stops.Untold) stops.Untold) refl cause (λ b. refl)
+        (IsErrOf {T = Unit {0}} (Err stops.Untold) stops.Untold) refl cause (λ b. refl)
         (λ b. blamed);
     reads = λ b. absurd (cc b);
     writes = λ b. absurd (cc b);
@@ -138,15 +138,14 @@ module _ {D : Type 0} (now : D → ℕ) (disk : D → ℕ → Option DiskState)
   }
 
   -- memory ran out before
-  pub tells_none : (old : D) (follower : FollowerState) (text : List ℕ)
-      → TellsTurn now disk told disk_faults wire_faults old old follower text (Err stops.Memory)
-  tells_none old follower text = record {
+  pub tells_none : (old : D) (text : List ℕ)
+      → TellsTurn now disk told disk_faults wire_faults old old text (Err stops.Memory)
+  tells_none old text = record {
     lines = λ next promise here. none_told next now disk told old old
         (record { text = text; promise = promise } ∷ []) refl;
-    same = tt;
     leaves = record { stays = stays_here now disk old; faults = refl };
     untold = none_blamed (wire_faults old) (wire_faults old)
-        (IsErrOf {T = FollowerState} (Err stops.Memory) stops.Untold) refl (λ b. absurd (cc b));
+        (IsErrOf {T = Unit {0}} (Err stops.Memory) stops.Untold) refl (λ b. absurd (cc b));
     reads = λ b. absurd (cc b);
     writes = λ b. absurd (cc b);
     keeps = λ b. absurd (cc b);
@@ -186,7 +185,7 @@ module _ {D S : Type 0} (now : D → ℕ) (disk : D → ℕ → Option DiskState
     where
       -- a turn was made, and its line printed, or its first bytes
       pub told_makes : {A B : Type 0} (new : D) (next : FollowerState) (turn : Turn)
-          (result : Result FollowerState RunStop)
+          (result : Result (Unit {0}) RunStop)
           → (is_known (scratch before) ≡ true → (state : State)
           → IsFollowerOf follower (disk old (now old)) state
           → HasMadeAny (disk mid (now mid)) state (step_in state) (Ok (next, Some turn)))
@@ -194,8 +193,8 @@ module _ {D S : Type 0} (now : D → ℕ) (disk : D → ℕ → Option DiskState
           → (adds turn ≡ false → mid ≡ old)
           → HasCause (disk_faults old) (disk_faults mid) A → (A → ⊥)
           → Serves scratch scratch_faults before after B → (B → ⊥)
-          → TellsTurn now disk told disk_faults wire_faults mid new next (turn_text turn) result
-          → Does (old, before) follower (any_from step_in) (new, after) result
+          → TellsTurn now disk told disk_faults wire_faults mid new (turn_text turn) result
+          → Does (old, before) follower (any_from step_in) (new, after) (told_by next result)
       told_makes {A} {B} new next turn result answer ready untouched cause none serves none_there
           tells = record {
             follows = λ known state is. any_follows now disk told disk_faults wire_faults old mid
@@ -205,21 +204,23 @@ module _ {D S : Type 0} (now : D → ℕ) (disk : D → ℕ → Option DiskState
                 (answer known state is) tells;
             log_goes_on = λ content there. stay_keeps now disk old mid new
                 (Grows next_in_log content) (log content there) tells.leaves.stays;
-            ready = if_follower next (λ f. IsReady f.node (disk new (now new)) (scratch after))
-                result tells.same
+            ready = if_told next (λ f. IsReady f.node (disk new (now new)) (scratch after)) result
                 (subst (λ (o : Option DiskState). IsReady next.node o (scratch after))
                 (sym tells.leaves.stays.last) ready);
             retains = serves.retains;
             disk_fault = kept (disk_faults old) (disk_faults mid) (disk_faults new) A
-                (IsErrOf result stops.DiskFault) tells.leaves.faults cause (λ b. absurd (none b))
-                (λ b. absurd (tells.writes b));
+                (IsErrOf (told_by next result) stops.DiskFault) tells.leaves.faults cause
+                (λ b. absurd (none b))
+                (λ b. absurd (tells.writes (blames_told next result stops.DiskFault b)));
             scratch_fault = kept (scratch_faults before) (scratch_faults after)
-                (scratch_faults after) B (IsErrOf result stops.ScratchFault) refl serves.cause
-                (λ b. absurd (none_there b)) (λ b. absurd (tells.keeps b));
+                (scratch_faults after) B (IsErrOf (told_by next result) stops.ScratchFault) refl
+                serves.cause (λ b. absurd (none_there b))
+                (λ b. absurd (tells.keeps (blames_told next result stops.ScratchFault b)));
             untold = carried (wire_faults old) (wire_faults mid) (wire_faults new)
-                (IsErrOf result stops.Untold) (IsErrOf result stops.Untold) wire.faults
-                tells.untold (λ b. b) (λ b. b);
-            reads = tells.reads;
+                (IsErrOf result stops.Untold) (IsErrOf (told_by next result) stops.Untold)
+                wire.faults tells.untold (told_blames next result stops.Untold)
+                (blames_told next result stops.Untold);
+            reads = λ b. tells.reads (blames_told next result stops.Unreadable b);
           }
 
       -- a device failed, or memory ran out
@@ -382,28 +383,47 @@ module _ {D S : Type 0} (now : D → ℕ) (disk : D → ℕ → Option DiskState
     pub all_are : (state : State) → all_from state ≡ after_all compiled_in stored_placement
         (so_far state)
 
+  -- nothing is done yet
+  none_done : (old : D × S) (follower : FollowerState)
+      → IsReady follower.node (disk old.0 (now old.0)) (scratch old.1)
+      → Does old follower nothing_done old (Ok follower)
+  none_done old follower ready = record {
+    follows = λ known state is. none_follows now disk told old.0 state follower is;
+    log_goes_on = log_begun now disk old.0 follower.node.log ready.log;
+    ready = ready;
+    retains = retains_refl (scratch old.1);
+    disk_fault = none_blamed (disk_faults old.0) (disk_faults old.0)
+        (IsErrOf {T = FollowerState} (Ok follower) stops.DiskFault) refl (λ b. absurd (cc b));
+    scratch_fault = none_blamed (scratch_faults old.1) (scratch_faults old.1)
+        (IsErrOf {T = FollowerState} (Ok follower) stops.ScratchFault) refl (λ b. absurd (cc b));
+    untold = none_blamed (wire_faults old.0) (wire_faults old.0)
+        (IsErrOf {T = FollowerState} (Ok follower) stops.Untold) refl (λ b. absurd (cc b));
+    reads = λ b. absurd (cc b);
+  }
+
   pub begun : (old : D × S) (follower : FollowerState)
       → IsReady follower.node (disk old.0 (now old.0)) (scratch old.1)
       → Progress old old follower follower
   begun old follower ready = record {
     so_far = nothing_done;
     grown = grown_none;
-    makes = record {
-      follows = λ known state is. none_follows now disk told old.0 state follower is;
-      log_goes_on = log_begun now disk old.0 follower.node.log ready.log;
-      ready = ready;
-      retains = retains_refl (scratch old.1);
-      disk_fault = none_blamed (disk_faults old.0) (disk_faults old.0)
-          (IsErrOf {T = FollowerState} (Ok follower) stops.DiskFault) refl (λ b. absurd (cc b));
-      scratch_fault = none_blamed (scratch_faults old.1) (scratch_faults old.1)
-          (IsErrOf {T = FollowerState} (Ok follower) stops.ScratchFault) refl
-          (λ b. absurd (cc b));
-      untold = none_blamed (wire_faults old.0) (wire_faults old.0)
-          (IsErrOf {T = FollowerState} (Ok follower) stops.Untold) refl (λ b. absurd (cc b));
-      reads = λ b. absurd (cc b);
-    };
+    makes = none_done old follower ready;
     all_are = λ state. refl;
   }
+
+  -- where no block is due, there is no further turn
+  pub none_due : (old : D × S) (follower : FollowerState)
+      → IsReady follower.node (disk old.0 (now old.0)) (scratch old.1)
+      → is_some (position_of (length follower.node.chain.digests) follower.waiting) ≡ false
+      → Does old follower all_from old (Ok follower)
+  none_due old follower ready none =
+      other_follows old old follower nothing_done all_from (Ok follower)
+      (none_done old follower ready)
+      (λ known state is.
+      let no_turn = none_further follower (disk old.0 (now old.0)) state is
+      (not_some (position_of (length follower.node.chain.digests) follower.waiting) none) in
+      subst (λ (d : Followed). Follows now disk told old.0 old.0 state d (λ f. f) (Ok follower))
+      (sym (none_left compiled_in stored_placement (nothing_done state) no_turn)))
 
   -- what is done with one further turn, and then all others
   all_then : (so_far : State → Followed) → ((state : State) → all_from state

@@ -26,8 +26,8 @@ use Rattle.recovery.specs.Node.{IsReady, next_in_chain, stored_placement}
 use Rattle.crash_promises.specs.Promises.{Line, plain, Telling}
 use Rattle.cli_append.specs.cli_lines.Lines.{refused_line}
 use Rattle.cli_append.specs.Appending.{IsKnown, GoesFrom, Grows, fold_end}
-use Rattle.cli_append.specs.declared.ending.AppendEnd.{AppendEnd}
-use Rattle.cli_append.specs.declared.ending.AppendEnd.TheVariants as ends
+use Rattle.cli_append.specs.declared.ending.RunEnd.{RunEnd}
+use Rattle.cli_append.specs.declared.ending.RunEnd.TheVariants as ends
 use Rattle.cli_append.specs.declared.ending.RunStop.{RunStop}
 use Rattle.cli_append.specs.declared.ending.RunStop.TheVariants as stops
 use Rattle.cli_append.proofs.ByLog.{log_begun, log_more}
@@ -57,12 +57,12 @@ frame_done done index frame =
     after_frame compiled_in stored_placement (nothing_done done.state) index frame
 
 -- how it ended, as an end of the fold
-whole_end : (result : Result AppendEnd RunStop) → IfOk result (λ answer. answer ≡ ends.Whole)
+whole_end : (result : Result RunEnd RunStop) → IfOk result (λ answer. answer ≡ ends.Whole)
     → IfOk result (λ answer. fold_end answer ≡ Whole)
 whole_end (Ok answer) is = ap fold_end is
 whole_end (Err stop) is = tt
 
-refused_end : (frame count : ℕ) (cause : Cause) (result : Result AppendEnd RunStop)
+refused_end : (frame count : ℕ) (cause : Cause) (result : Result RunEnd RunStop)
     → frame ≡ count → IfOk result (λ answer. answer ≡ ends.Refused frame cause)
     → IfOk result (λ answer. fold_end answer ≡ Refused count cause)
 refused_end frame count cause (Ok answer) number is =
@@ -95,7 +95,7 @@ same_follower rule left taker made follower after end result same takes =
 pub taker_blames : (before now : ℕ) (stop other : RunStop)
     → HasCause before now (IsErrOf {T = InputEnd Following} (Err (stopped.Taker stop))
     (stopped.Taker other))
-    → HasCause before now (IsErrOf {T = AppendEnd} (Err stop) other)
+    → HasCause before now (IsErrOf {T = RunEnd} (Err stop) other)
 taker_blames before now stop other cause = record {
   later = cause.later;
   failed = λ blames.
@@ -112,7 +112,7 @@ pub source_unblamed : (before now : ℕ) (stop : RunStop)
     stopped.Fault)
     → (IsErrOf {T = InputEnd Following} (Err (stopped.Taker stop))
     (stopped.Taker stops.Unreadable) → ⊥)
-    → HasCause before now (IsErrOf {T = AppendEnd} (Err stop) stops.Unreadable)
+    → HasCause before now (IsErrOf {T = RunEnd} (Err stop) stops.Unreadable)
 source_unblamed before now stop cause none = record {
   later = cause.later;
   failed = λ blames.
@@ -330,7 +330,7 @@ module _ {D S : Type 0} (now : D → ℕ) (disk : D → ℕ → Option DiskState
           (is : IsFollowerOf first.chain.follower (disk first.taker.0 (now first.taker.0)) state)
           (left_is : first.left ≡ Some input) where
         -- the input has ended, and the last line is printed
-        pub whole_followed : (chain : Following) (new : D) (result : Result AppendEnd RunStop)
+        pub whole_followed : (chain : Following) (new : D) (result : Result RunEnd RunStop)
             → TakesInput rule first left taker (Ok (inputs.Whole chain))
             → Stays now disk taker.0 new
             → Telling next_in_chain now disk told taker.0 new
@@ -400,7 +400,7 @@ module _ {D S : Type 0} (now : D → ℕ) (disk : D → ℕ → Option DiskState
             (λ (f : FollowerState). f) (fold_all state input) stop here more.1
 
         -- a frame is refused for its form, and its line is printed
-        module _ (new : D) (frame : ℕ) (cause : Cause) (result : Result AppendEnd RunStop) where
+        module _ (new : D) (frame : ℕ) (cause : Cause) (result : Result RunEnd RunStop) where
           by_form : (takes : TakesInput rule first left taker (Ok (inputs.Refused frame cause)))
               → taker ≡ takes.last.taker → Stays now disk taker.0 new
               → Telling next_in_chain now disk told taker.0 new (plain (refused_line frame cause)

@@ -17,7 +17,7 @@ use Rattle.cli_append.specs.cli_lines.chain_input.Folding.{FoldEnd, Whole, Refus
 use Rattle.cli_append.specs.cli_lines.chain_input.declared.cause.Cause.TheVariants as causes
 use Rattle.cli_append.specs.Lines.{known_line}
 use Rattle.cli_append.specs.Appending.{IsKnown, line_of, fold_end}
-use Rattle.cli_append.specs.declared.ending.AppendEnd.{AppendEnd}
+use Rattle.cli_append.specs.declared.ending.RunEnd.{RunEnd}
 use Rattle.cli_append.specs.declared.ending.RunStop.{RunStop}
 use Rattle.follow_core.specs.follower_steps.Steps.{PlacerByMark, State, started, Step}
 use Rattle.follow_core.specs.follower_steps.Steps.{Turned, Added, Known, Kept, Dropped}
@@ -76,16 +76,16 @@ after_any compile before None = before
 after_any compile before (Some step) = after_step compile before step
 
 -- And then it made so many further turns, or all if there are fewer.
-abbrev pub after_further : Compiler → PlacerByMark → ℕ → Followed → Followed
-after_further compile place zero before = before
-after_further compile place (suc more) before =
-    after_further compile place more
+abbrev pub after_more : Compiler → PlacerByMark → ℕ → Followed → Followed
+after_more compile place zero before = before
+after_more compile place (suc more) before =
+    after_more compile place more
     (after_any compile before (further_turn place before.state))
 
 -- And then it made all further turns: each takes out one of the blocks that wait.
 abbrev pub after_all : Compiler → PlacerByMark → Followed → Followed
 after_all compile place before =
-    after_further compile place (length before.state.waiting) before
+    after_more compile place (length before.state.waiting) before
 
 -- And then all blocks that are held were acknowledged.
 abbrev pub all_acknowledged : Followed → Followed
@@ -155,7 +155,7 @@ follow_lines fold = fold.done.lines ++ last_line fold.done.state fold.end ∷ []
 -- left; and if the disk is known, nothing is pending, and its content stands for the chain with the
 -- blocks that the follower added.
 pub record HasFollowed (state : Option DiskState) (left : Option (List ℕ)) (logged : Logged)
-    (fold : FollowFold) (end : AppendEnd) : Type 0 where
+    (fold : FollowFold) (end : RunEnd) : Type 0 where
   pub end_is : fold_end end ≡ fold.end
   pub left_is : left ≡ Some fold.left
   pub log : Rests state (λ image. chain_in image ≡ Some (with_blocks logged fold.done.added))
@@ -164,7 +164,7 @@ pub record HasFollowed (state : Option DiskState) (left : Option (List ℕ)) (lo
 -- of the input from this chain on.
 pub record FollowsAll {D : Type 0} (now : D → ℕ) (disk : D → ℕ → Option DiskState)
     (told : D → Option (List Tell)) (old new : D) (left : Option (List ℕ)) (logged : Logged)
-    (fold : FollowFold) (result : Result AppendEnd RunStop) : Type 0 where
+    (fold : FollowFold) (result : Result RunEnd RunStop) : Type 0 where
   -- A crash at any moment leaves the chain from before, and the first blocks, any number of them,
   -- of those that the follower adds.
   pub images : IsKnown (disk old (now old)) → Keeps now disk old new (IsPartly next_in_chain logged

@@ -69,16 +69,13 @@ pub record Makes {D S : Type 0} (now : D → ℕ) (disk : D → ℕ → Option D
   pub untold : HasCause (wire_faults old.0) (wire_faults new.0) (IsErrOf result stops.Untold)
   pub reads : IsErrOf result stops.Unreadable → ⊥
 
--- What printing the line of a turn does, after which the follower is returned. If it was not
--- printed wholly, the follower was discarded.
+-- What printing the line of a turn does.
 pub record TellsTurn {D : Type 0} (now : D → ℕ) (disk : D → ℕ → Option DiskState)
     (told : D → Option (List Tell)) (disk_faults wire_faults : D → ℕ) (old new : D)
-    (follower : FollowerState) (text : List ℕ) (result : Result FollowerState RunStop)
-    : Type 0 where
+    (text : List ℕ) (result : Result (Unit {0}) RunStop) : Type 0 where
   pub lines : (next : NextBlock) (promise : Promise) → IsKeptAt next now disk old promise
       → Telling next now disk told old new (record { text = text; promise = promise } ∷ [])
       (is_ok result)
-  pub same : IfOk result (λ same. same ≡ follower)
   pub leaves : LeavesDisk now disk disk_faults old new
   -- The wire is blamed exactly if it failed, and nothing else is blamed.
   pub untold : HasCause (wire_faults old) (wire_faults new) (IsErrOf result stops.Untold)

@@ -22,7 +22,7 @@ ghost use Rattle.cli_follow.specs.{
 use crate::lines::follow_line;
 use crate::taking::{Deliverer, Following};
 use chain_input::{InputEnd, InputStop, take_frames};
-use cli_append::{AppendEnd, Node, RunStop, refuse, tell_line};
+use cli_append::{Node, RunEnd, RunStop, refuse, tell_line};
 use disk_model::Disk;
 use follow_core::Follower;
 use lc_base::Memory;
@@ -31,15 +31,11 @@ use scratch_model::Scratch;
 use std::alloc::Global;
 
 /// Prints the last line: how many blocks are held, and how many wait.
-fn tell_end<M: Wire>(
-    alloc: Global,
-    machine: &mut M,
-    follower: Follower,
-) -> Result<AppendEnd, RunStop>
+fn tell_end<M: Wire>(alloc: Global, machine: &mut M, follower: Follower) -> Result<RunEnd, RunStop>
     ensures lines { (next : NextBlock) → Telling next M.now M.disk M.told machine.old machine.new
         (plain (follow_text (length follower.node.chain.digests) (length follower.waiting)) ∷ [])
         (is_ok result) }
-    ensures end { IfOk result (λ end. end ≡ AppendEnd.Whole) }
+    ensures end { IfOk result (λ end. end ≡ RunEnd.Whole) }
     ensures disk { LeavesDisk M.now M.disk M.disk_faults machine.old machine.new }
     ensures untold { HasCause (M.wire_faults machine.old) (M.wire_faults machine.new)
         (IsErrOf result RunStop.Untold) }
@@ -52,7 +48,7 @@ fn tell_end<M: Wire>(
     follower.give_up();
     match follow_line(alloc, blocks, waiting) {
         Ok(line) => match tell_line(machine, line.as_bytes()) {
-            Ok(()) => Ok(AppendEnd::Whole),
+            Ok(()) => Ok(RunEnd::Whole),
             Err(Failed) => Err(RunStop::Untold),
         },
         Err(Memory) => Err(RunStop::Memory),
@@ -112,7 +108,7 @@ pub fn follow<I: Source, M: Disk + Wire, S: Scratch>(
     machine: &mut M,
     scratch: &mut S,
     node: Node,
-) -> Result<AppendEnd, RunStop>
+) -> Result<RunEnd, RunStop>
     requires ready { IsReady node (M.disk machine.old (M.now machine.old)) (S.state scratch.old) }
     // If it is known what the source has left, and which bytes the scratch device holds, the frames
     // are delivered, and the lines of all turns printed, as the fold of the input says, by the mark

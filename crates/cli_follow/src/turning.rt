@@ -30,29 +30,17 @@ fn stop_of(fault: FollowFault) -> RunStop
     }
 }
 
-/// Prints the line of a turn that the follower made. If it can't be printed wholly, the follower is
-/// discarded.
-fn tell_turn<M: Wire>(
-    alloc: Global,
-    machine: &mut M,
-    follower: Follower,
-    turn: Turn,
-) -> Result<Follower, RunStop>
+/// Prints the line of a turn that a follower made.
+fn tell_turn<M: Wire>(alloc: Global, machine: &mut M, turn: &Turn) -> Result<(), RunStop>
     ensures { TellsTurn M.now M.disk M.told M.disk_faults M.wire_faults machine.old machine.new
-        follower (turn_text turn) result }
+        (turn_text turn.now) result }
 {
-    match turn_line(alloc, &turn) {
+    match turn_line(alloc, turn) {
         Ok(line) => match tell_line(machine, line.as_bytes()) {
-            Ok(()) => Ok(follower),
-            Err(Failed) => {
-                follower.give_up();
-                Err(RunStop::Untold)
-            }
+            Ok(()) => Ok(()),
+            Err(Failed) => Err(RunStop::Untold),
         },
-        Err(Memory) => {
-            follower.give_up();
-            Err(RunStop::Memory)
-        }
+        Err(Memory) => Err(RunStop::Memory),
     }
 }
 
@@ -72,7 +60,13 @@ fn first_turn<M: Disk + Wire, S: Scratch>(
         (first_turn stored_placement state index bytes)) (machine.new, scratch.new) result }
 {
     match follower.deliver(alloc, machine, scratch, index, bytes) {
-        Ok((next, turn)) => tell_turn(alloc, machine, next, turn),
+        Ok((next, turn)) => match tell_turn(alloc, machine, &turn) {
+            Ok(()) => Ok(next),
+            Err(stop) => {
+                next.give_up();
+                Err(stop)
+            }
+        },
         Err(fault) => Err(stop_of(fault)),
     }
 }
@@ -95,9 +89,12 @@ fn further_turns<M: Disk + Wire, S: Scratch>(
         match follower.drain(alloc, machine, scratch) {
             Ok((next, made)) => match made {
                 None => return Ok(next),
-                Some(turn) => match tell_turn(alloc, machine, next, turn) {
-                    Ok(same) => follower = same,
-                    Err(stop) => return Err(stop),
+                Some(turn) => match tell_turn(alloc, machine, &turn) {
+                    Ok(()) => follower = next,
+                    Err(stop) => {
+                        next.give_up();
+                        return Err(stop);
+                    }
                 },
             },
             Err(fault) => return Err(stop_of(fault)),
@@ -124,7 +121,14 @@ pub fn deliver<M: Disk + Wire, S: Scratch>(
         Ok(copy) => {
             let bytes = Bytes::from_vec(copy);
             match first_turn(alloc, machine, scratch, follower, index, bytes) {
-                Ok(next) => further_turns(alloc, machine, scratch, next),
+                Ok(next) => {
+                    // If no block is due there is no further turn, and to find that out `drain`
+                    // would be given the node, and hand it back.
+                    if next.has_due() {
+                        return further_turns(alloc, machine, scratch, next);
+                    }
+                    Ok(next)
+                }
                 Err(stop) => Err(stop),
             }
         }

@@ -10,7 +10,7 @@ use Rattle.cli_append.specs.recovery.declared.errors.StartError.{StartError}
 use Rattle.cli_append.specs.recovery.declared.errors.StartError.TheVariants as starts
 use Rattle.crash_promises.specs.Promises.{plain, Telling}
 use Rattle.cli_append.specs.Appending.{fold_end}
-use Rattle.cli_append.specs.declared.ending.AppendEnd.{AppendEnd}
+use Rattle.cli_append.specs.declared.ending.RunEnd.{RunEnd}
 use Rattle.cli_append.specs.declared.ending.RunStop.{RunStop}
 use Rattle.cli_append.specs.cli_lines.Lines.{not_a_log_line, damaged_line}
 use Rattle.cli_append.specs.cli_lines.Outcome.{status_of, outcome_with}
@@ -45,9 +45,9 @@ status_of_usage (Ok told) = statuses.Usage
 status_of_usage (Err stop) = status_of_stop stop
 
 -- How the commands `append` and `follow` end, by the result of taking all frames.
-abbrev pub append_answer : Result AppendEnd RunStop → Result Ending RunStop
-append_answer (Ok end) = Ok (fold_ending (fold_end end))
-append_answer (Err stop) = Err stop
+abbrev pub run_answer : Result RunEnd RunStop → Result Ending RunStop
+run_answer (Ok end) = Ok (fold_ending (fold_end end))
+run_answer (Err stop) = Err stop
 
 -- How the command `upgrade` ends, by the result of marking the log.
 abbrev pub upgrade_answer : {T : Type 0} → Result T RunStop → Result Ending RunStop

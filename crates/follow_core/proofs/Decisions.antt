@@ -1,19 +1,22 @@
 -- What a follower reports of a block, by what its node returned for it.
-use Rattle.std.proofs.Common.{◌≡◌, inl, inr, ℕ, Bool, List, [], ◌∷◌, ◌++◌, refl, sym, ◌∙◌, ap}
-use Rattle.std.proofs.Common.{subst}
-use Rattle.std.specs.Prelude.{Option, Some, None, IfOk, IsErrOf, Result, Ok, Err}
-use Rattle.std.proofs.lemmas.List.{append-nil}
+use Rattle.std.proofs.Common.{◌≡◌, inl, inr, ℕ, Bool, false, List, [], ◌∷◌, ◌++◌, length, refl}
+use Rattle.std.proofs.Common.{sym, ◌∙◌, ap, subst, arith}
+use Rattle.std.specs.Prelude.{Option, Some, None, is_some, IfOk, IsErrOf, Result, Ok, Err}
+use Rattle.std.proofs.lemmas.List.{append-nil, length-append}
 use Rattle.lc_base.specs.Faults.{HasCause}
+use Rattle.lc_base.specs.declared.digest.Digest.{Digest}
 use Rattle.lc_io.specs.Disk.{DiskState}
 use Rattle.scratch_model.specs.Scratch.{ScratchState, Serves}
 use Rattle.disk_model.specs.Disk.{Keeps}
 use Rattle.disk_model.proofs.Moments.{weaker}
+use Rattle.block_codec.specs.Placement.{bytes_digest}
 use Rattle.block_codec.specs.Reading.{block_in}
 use Rattle.block_codec.specs.declared.block.Block.{Block}
 use Rattle.recovery.specs.chain_replay.Judging.{Taken, judgement_of}
 use Rattle.recovery.specs.chain_replay.Judging as judging
 use Rattle.recovery.specs.chain_replay.declared.refusal.Refusal.{Refusal}
-use Rattle.recovery.specs.Node.{NodeState, IsNodeOf, IsAppendAnswer, IsStepOf, IfNode, Blames}
+use Rattle.recovery.specs.Node.{NodeState, IsNodeOf, IsAppendAnswer, IsNodeAfter, IsStepOf, IfNode}
+use Rattle.recovery.specs.Node.{Blames}
 use Rattle.recovery.specs.Node.{is_disk_fault, is_scratch_fault, blocks_after, logged_in, chain_in}
 use Rattle.recovery.specs.Node.{stored_placement}
 use Rattle.recovery.specs.Node as nodes
@@ -22,12 +25,13 @@ use Rattle.recovery.specs.declared.node.Appended.TheVariants as appendeds
 use Rattle.recovery.specs.declared.errors.AppendError.{AppendError}
 use Rattle.recovery.specs.declared.errors.AppendError.TheVariants as errors
 use Rattle.follower_steps.specs.declared.waiting.Waiting.{Waiting}
-use Rattle.follower_steps.specs.Steps.{State, Known, judged, decided}
+use Rattle.follower_steps.specs.Steps.{State, AreAhead, Known, judged, decided, position_of}
+use Rattle.follower_steps.proofs.Nearby.{ahead_longer}
 use Rattle.follow_core.specs.declared.turn.Turn.{Turn}
 use Rattle.follow_core.specs.declared.turn.FollowFault.{FollowFault}
 use Rattle.follow_core.specs.declared.turn.FollowFault.TheVariants as faults
 use Rattle.follow_core.specs.Follower.{FollowerState, IsFollowerOf, HasMade, IsTurnImage}
-use Rattle.follow_core.specs.Turning.{adds, reaches_disk, node_turn, with_waiting}
+use Rattle.follow_core.specs.Turning.{IsDecided, adds, reaches_disk, node_turn, with_waiting}
 
 abbrev pub NodeAnswer : Type 0
 NodeAnswer = Result (NodeState × Appended) (Option NodeState × AppendError)
@@ -168,7 +172,49 @@ module _ (node : NodeState) (waiting : List Waiting) (state : State) (index : �
         (IsStepOf (logged_in node.log state.blocks) (judgement m))) marked keeps)
         (λ image is. step_image node state index (judgement state.marked) image marked is)
 
+-- ---- whatever is known of the devices
+
+module _ (old : NodeState) (waiting : List Waiting)
+    (free : is_some (position_of (length old.chain.digests) waiting) ≡ false)
+    (ahead : AreAhead (length old.chain.digests) waiting) (index : ℕ) (bytes : List ℕ)
+  where
+    same_ahead : (node : NodeState) → node ≡ old → AreAhead (length node.chain.digests) waiting
+    same_ahead node same =
+        subst (λ (n : NodeState). AreAhead (length n.chain.digests) waiting) (sym same) ahead
+
+    -- what waits is ahead of the node that is returned
+    pub still_ahead : (answer : NodeAnswer) → IsNodeAfter old bytes answer
+        → IfOk (node_turn index answer)
+        (λ done. AreAhead (length done.0.chain.digests) waiting)
+    still_ahead (Ok (node, appendeds.Known number)) same = same_ahead node same
+    still_ahead (Ok (node, appendeds.Added number rows receipts root)) (number_is, longer, more) =
+        subst (λ (held : ℕ). AreAhead held waiting)
+        (omega (
+          arith,
+          ap (length {A = Digest}) longer,
+          length-append old.chain.digests (bytes_digest bytes ∷ []),
+        ))
+        (ahead_longer (length old.chain.digests) waiting ahead free)
+    still_ahead (Err (Some node, errors.Refused refusal)) same = same_ahead node same
+    still_ahead (Err (None, errors.Refused refusal)) same = tt
+    still_ahead (Err (back, errors.DiskFault)) same = tt
+    still_ahead (Err (back, errors.ScratchFault)) same = tt
+    still_ahead (Err (back, errors.Memory)) same = tt
+
 module _ (index : ℕ) (waiting : List Waiting) where
+  pub is_decided : (old : NodeState) (bytes : List ℕ) (answer : NodeAnswer)
+      → IsNodeAfter old bytes answer
+      → IfOk (follower_turn index waiting answer)
+      (λ done. IsDecided old index bytes done.0.node done.1)
+  is_decided old bytes (Ok (node, appendeds.Known number)) same = same
+  is_decided old bytes (Ok (node, appendeds.Added number rows receipts root)) longer = longer
+  is_decided old bytes (Err (Some node, errors.Refused refusal)) same =
+      (same, refl, (refusal, refl))
+  is_decided old bytes (Err (None, errors.Refused refusal)) same = tt
+  is_decided old bytes (Err (back, errors.DiskFault)) same = tt
+  is_decided old bytes (Err (back, errors.ScratchFault)) same = tt
+  is_decided old bytes (Err (back, errors.Memory)) same = tt
+
   pub node_made : (P : NodeState → Type 0) (answer : NodeAnswer) → IfNode P answer
       → IfOk (follower_turn index waiting answer) (λ done. P done.0.node)
   node_made P (Ok done) p = p

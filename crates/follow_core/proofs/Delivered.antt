@@ -1,35 +1,45 @@
--- The first turn of a delivery: a follower that keeps or drops a block leaves its disk as it is.
-use Rattle.std.proofs.Common.{◌≡◌, inl, ℕ, Bool, List, [], ◌∷◌, ◌++◌, length, refl, sym, ◌∙◌, ap}
-use Rattle.std.proofs.Common.{subst, arith}
-use Rattle.std.specs.Prelude.{Option, Some, IfOk, Result, Ok, Err}
+-- The first turn of a delivery: a follower that keeps, knows or drops a block without the chain
+-- leaves its disk as it is.
+use Rattle.std.proofs.Common.{◌≡◌, inl, ℕ, Bool, true, false, List, [], ◌∷◌, ◌++◌, map, length}
+use Rattle.std.proofs.Common.{refl, sym, ◌∙◌, ap, subst, arith}
+use Rattle.std.specs.Prelude.{Option, Some, IfOk, Result, Ok, Err, if◌then◌else◌, slice_get}
 use Rattle.std.proofs.lemmas.List.{length-map}
 use Rattle.lc_base.specs.Faults.{HasCause}
 use Rattle.lc_base.specs.declared.digest.Digest.{Digest}
+use Rattle.lc_base.specs.declared.memory.Memory.{Memory}
 use Rattle.lc_io.specs.Disk.{DiskState}
 use Rattle.disk_model.specs.Disk.{Keeps, content_of}
 use Rattle.disk_model.proofs.Moments.{weaker}
-use Rattle.block_codec.specs.Placement.{digest_of}
+use Rattle.block_codec.specs.Placement.{bytes_digest, digest_of, held_placement, is_same_digest}
 use Rattle.block_codec.specs.Reading.{block_in}
+use Rattle.block_codec.specs.declared.block.Block.{Block}
+use Rattle.block_codec.specs.declared.placement.Placement.{Placement}
+use Rattle.block_codec.specs.declared.placement.Placement.TheVariants as placements
+use Rattle.block_codec.specs.declared.placement.Misplaced.TheVariants as misplaced
+use Rattle.recovery.specs.chain_replay.Judging.{judgement_of, judged_by_placement}
 use Rattle.recovery.specs.chain_replay.declared.refusal.Refusal.TheVariants as refusals
 use Rattle.recovery.specs.Node.{NodeState, IsNodeOf, IsStepOf, chain_in, logged_in}
 use Rattle.recovery.specs.Node.{stored_placement}
 use Rattle.recovery.proofs.Nodes.{still}
 use Rattle.follower_steps.specs.declared.cause.Cause.{Cause}
+use Rattle.follower_steps.specs.declared.cause.Cause.TheVariants as causes
 use Rattle.follower_steps.specs.declared.waiting.Waiting.{Waiting}
 use Rattle.follower_steps.specs.declared.waiting.Arrival.{Arrival}
 use Rattle.follower_steps.specs.declared.waiting.Arrival.TheVariants as arrivals
-use Rattle.follower_steps.specs.Steps.{State, Step, Kept, decided, arrival_in, arrived, first_turn}
-use Rattle.follower_steps.specs.Steps.{kept}
+use Rattle.follower_steps.specs.Steps.{State, Step, Known, Kept, arrival_in, arrived, first_turn}
+use Rattle.follower_steps.specs.Steps.{judged, kept}
+use Rattle.follower_steps.specs.Steps as steps
+use Rattle.follower_steps.proofs.Arrivals.{held_is}
 use Rattle.follow_core.specs.declared.turn.Turn.{Turn}
 use Rattle.follow_core.specs.declared.turn.Turn.TheVariants as turns
 use Rattle.follow_core.specs.declared.turn.FollowFault.{FollowFault}
 use Rattle.follow_core.specs.Follower.{FollowerState, IsFollowerOf, IsTurn, HasMade, IsTurnImage}
-use Rattle.follow_core.specs.Turning.{waiting_with}
+use Rattle.follow_core.specs.Turning.{IsFirstTurn, held_turn, waiting_with}
 
 -- the number of held blocks is that of the node's digests
-pub held_is : (follower : FollowerState) (disk : Option DiskState) (state : State)
+pub count_is : (follower : FollowerState) (disk : Option DiskState) (state : State)
     → IsFollowerOf follower disk state → length follower.node.chain.digests ≡ length state.blocks
-held_is follower disk state is =
+count_is follower disk state is =
     ap (length {A = Digest}) is.node.kept.digests_are ∙ length-map state.blocks digest_of
 
 -- the first turn goes by the arrival, which the follower tells by what it keeps
@@ -41,7 +51,7 @@ pub first_is : (follower : FollowerState) (disk : Option DiskState) (state : Sta
 first_is follower disk state index bytes arrival is same =
     ap (arrived stored_placement state index bytes)
     (ap (λ (n : ℕ). arrival_in n state.waiting (block_in bytes))
-    (sym (held_is follower disk state is))
+    (sym (count_is follower disk state is))
     ∙ ap (λ (w : List Waiting).
     arrival_in (length follower.node.chain.digests) w (block_in bytes)) (sym is.waiting) ∙ sym same)
 
@@ -122,18 +132,105 @@ still_turn now disk old follower state next content is told =
 -- ---- the arrival, as the call tells it
 
 -- what the parts of a follower say of an arrival
-pub arrival_told : (follower : FollowerState) (held : ℕ) (waiting : List Waiting)
-    (spelled bytes : List ℕ) (arrival : Arrival) → held ≡ length follower.node.chain.digests
-    → waiting ≡ follower.waiting → spelled ≡ bytes
-    → arrival ≡ arrival_in held waiting (block_in spelled)
-    → arrival
-    ≡ arrival_in (length follower.node.chain.digests) follower.waiting (block_in bytes)
-arrival_told follower held waiting spelled bytes arrival held_as waiting_as bytes_as is =
-    is ∙ ap (λ (n : ℕ). arrival_in n waiting (block_in spelled)) held_as
+arrival_of_parts : (follower : FollowerState) (held : ℕ) (waiting : List Waiting)
+    (bytes : List ℕ) (arrival : Arrival) → held ≡ length follower.node.chain.digests
+    → waiting ≡ follower.waiting → arrival ≡ arrival_in held waiting (block_in bytes)
+    → arrival ≡ arrival_in (length follower.node.chain.digests) follower.waiting (block_in bytes)
+arrival_of_parts follower held waiting bytes arrival held_as waiting_as is =
+    is ∙ ap (λ (n : ℕ). arrival_in n waiting (block_in bytes)) held_as
     ∙ ap (λ (w : List Waiting).
-    arrival_in (length follower.node.chain.digests) w (block_in spelled)) waiting_as
-    ∙ ap (λ (b : List ℕ).
+    arrival_in (length follower.node.chain.digests) w (block_in bytes)) waiting_as
+
+pub arrival_if_told : (follower : FollowerState) (held : ℕ) (waiting : List Waiting)
+    (bytes : List ℕ) (result : Result Arrival Memory) → held ≡ length follower.node.chain.digests
+    → waiting ≡ follower.waiting
+    → IfOk result (λ arrival. arrival ≡ arrival_in held waiting (block_in bytes))
+    → IfOk result (λ arrival. arrival
+    ≡ arrival_in (length follower.node.chain.digests) follower.waiting (block_in bytes))
+arrival_if_told follower held waiting bytes (Ok arrival) held_as waiting_as is =
+    arrival_of_parts follower held waiting bytes arrival held_as waiting_as is
+arrival_if_told follower held waiting bytes (Err memory) held_as waiting_as is = tt
+
+-- what the call says of one
+pub arrival_told : (follower : FollowerState) (spelled bytes : List ℕ) (told arrival : Arrival)
+    → spelled ≡ bytes → told ≡ arrival
+    → told ≡ arrival_in (length follower.node.chain.digests) follower.waiting (block_in spelled)
+    → arrival ≡ arrival_in (length follower.node.chain.digests) follower.waiting (block_in bytes)
+arrival_told follower spelled bytes told arrival bytes_as arrival_as is =
+    sym arrival_as ∙ is ∙ ap (λ (b : List ℕ).
     arrival_in (length follower.node.chain.digests) follower.waiting (block_in b)) bytes_as
+
+-- the turn goes by the arrival, too
+pub turn_is : (follower : FollowerState) (index : ℕ) (bytes : List ℕ) (arrival : Arrival)
+    (result : Result (FollowerState × Turn) FollowFault)
+    → arrival ≡ arrival_in (length follower.node.chain.digests) follower.waiting (block_in bytes)
+    → IfOk result (λ done. IsFirstTurn follower.node index bytes arrival done.0.node done.1)
+    → IfOk result (λ done. IsFirstTurn follower.node index bytes
+    (arrival_in (length follower.node.chain.digests) follower.waiting (block_in bytes))
+    done.0.node done.1)
+turn_is follower index bytes arrival result same is = subst
+    (λ (a : Arrival). IfOk result
+    (λ done. IsFirstTurn follower.node index bytes a done.0.node done.1)) same is
+
+pub kept_turn : (follower : FollowerState) (index number : ℕ) (bytes : List ℕ)
+    (result : Result (FollowerState × Turn) FollowFault)
+    → IfOk result (λ done. done.0.node ≡ follower.node)
+    → IfOk result (λ done. done.1 ≡ turns.Kept number)
+    → IfOk result (λ done. IsFirstTurn follower.node index bytes (arrivals.Early number)
+    done.0.node done.1)
+kept_turn follower index number bytes (Ok done) node_is turn_is = (node_is, turn_is)
+kept_turn follower index number bytes (Err fault) node_is turn_is = tt
+
+-- ---- a block whose number is held
+
+held_judged : (disk : Option DiskState) (follower : FollowerState) (state : State)
+    (index number : ℕ) (block : Block) (have : Digest) (same : Bool) → block.number ≡ number
+    → IsFollowerOf follower disk state
+    → HasMade disk state.blocks
+    (judged state index (judged_by_placement block
+    (if same then placements.Known else placements.Not (misplaced.Fork have))))
+    (Ok (
+      follower,
+      if same then turns.Known number
+          else turns.Dropped index (causes.Refused (refusals.Placed (misplaced.Fork have))),
+    ))
+held_judged disk follower state index number block have true number_is is = (ap Known number_is, is)
+held_judged disk follower state index number block have false number_is is = (refl, is)
+
+-- the chain decides about it by its digest and that of the held one
+pub held_made : (follower : FollowerState) (disk : Option DiskState) (state : State)
+    (index number : ℕ) (bytes : List ℕ) (have : Digest) (turn : Turn)
+    → ((block : Block) → block_in bytes ≡ Ok block → bytes_digest bytes ≡ digest_of block)
+    → IsFollowerOf follower disk state
+    → arrivals.Held number
+    ≡ arrival_in (length follower.node.chain.digests) follower.waiting (block_in bytes)
+    → slice_get follower.node.chain.digests number ≡ Some have
+    → turn ≡ held_turn index number have (bytes_digest bytes)
+    → HasMade disk state.blocks (first_turn stored_placement state index bytes)
+    (Ok (follower, turn))
+held_made follower disk state index number bytes have turn spells is same got turn_as =
+    let (block, read, number_is, within) = held_is (length follower.node.chain.digests)
+    follower.waiting (block_in bytes) number (sym same) in
+    let spelled = spells block read in
+    let here : slice_get (map digest_of state.blocks) block.number ≡ Some have =
+    ap (λ (ds : List Digest). slice_get ds block.number) (sym is.node.kept.digests_are)
+    ∙ ap (slice_get follower.node.chain.digests) number_is ∙ got in
+    let placed : stored_placement state.marked state.blocks block
+    ≡ held_placement have (bytes_digest bytes) =
+    rw here (ap (held_placement have) (sym spelled)) in
+    let step : first_turn stored_placement state index bytes
+    ≡ judged state index (judged_by_placement block
+    (held_placement have (bytes_digest bytes))) =
+    first_is follower disk state index bytes (arrivals.Held number) is same
+    ∙ ap (λ (d : Result Block ℕ). judged state index
+    (judgement_of (stored_placement state.marked) state.blocks d)) read
+    ∙ ap (λ (p : Placement). judged state index (judged_by_placement block p)) placed in
+    subst (λ (s : Step). HasMade disk state.blocks s (Ok (follower, turn))) (sym step)
+    (subst (λ (t : Turn). HasMade disk state.blocks (judged state index
+    (judged_by_placement block (held_placement have (bytes_digest bytes))))
+    (Ok (follower, t))) (sym turn_as)
+    (held_judged disk follower state index number block have
+    (is_same_digest have (bytes_digest bytes)) number_is is))
 
 -- a block that is due: the chain decides
 pub due_made : (follower : FollowerState) (disk new : Option DiskState) (state : State) (index : ℕ)
@@ -141,7 +238,7 @@ pub due_made : (follower : FollowerState) (disk new : Option DiskState) (state :
     → IsFollowerOf follower disk state
     → arrivals.Due
     ≡ arrival_in (length follower.node.chain.digests) follower.waiting (block_in bytes)
-    → HasMade new state.blocks (decided stored_placement state index bytes) result
+    → HasMade new state.blocks (steps.decided stored_placement state index bytes) result
     → HasMade new state.blocks (first_turn stored_placement state index bytes) result
 due_made follower disk new state index bytes result is same = subst
     (λ (s : Step). HasMade new state.blocks s result)
@@ -152,7 +249,8 @@ pub due_images : {D : Type 0} (now : D → ℕ) (disk : D → ℕ → Option Dis
     → IsFollowerOf follower (disk old (now old)) state
     → arrivals.Due
     ≡ arrival_in (length follower.node.chain.digests) follower.waiting (block_in bytes)
-    → Keeps now disk old new (IsTurnImage state (decided stored_placement state index bytes).state)
+    → Keeps now disk old new
+    (IsTurnImage state (steps.decided stored_placement state index bytes).state)
     → Keeps now disk old new
     (IsTurnImage state (first_turn stored_placement state index bytes).state)
 due_images now disk old new follower state index bytes is same = subst

@@ -12,18 +12,20 @@ use Rattle.disk_model.specs.Disk.{Keeps}
 use Rattle.scratch_model.specs.Scratch.{ScratchState, Serves}
 use Rattle.recovery.specs.Node.{NodeState, KeepsLog, stored_placement}
 use Rattle.follower_steps.specs.declared.waiting.Waiting.{Waiting}
-use Rattle.follower_steps.specs.Steps.{State, Step, decided, further_turn, turn_at, position_of}
-use Rattle.follower_steps.specs.Steps.{without}
+use Rattle.follower_steps.specs.Steps.{State, Step, AreAhead, decided, further_turn, turn_at}
+use Rattle.follower_steps.specs.Steps.{position_of, without}
 use Rattle.follower_steps.specs.Events.{state_after}
+use Rattle.follower_steps.proofs.Nearby.{free_without}
 use Rattle.follow_core.specs.declared.turn.Turn.{Turn}
 use Rattle.follow_core.specs.declared.turn.FollowFault.{FollowFault}
 use Rattle.follow_core.specs.declared.turn.FollowFault.TheVariants as faults
 use Rattle.follow_core.specs.Follower.{FollowerState, IsFollowerOf, HasMade, HasMadeAny}
 use Rattle.follow_core.specs.Follower.{IsTurnImage}
-use Rattle.follow_core.specs.Turning.{KeepsLogOf, adds, adds_any, due_in, made, reaches_disk}
+use Rattle.follow_core.specs.Turning.{IsDecided, IsFurtherTurn, KeepsLogOf, adds, adds_any, due_in}
+use Rattle.follow_core.specs.Turning.{made, reaches_disk}
 use Rattle.follow_core.specs.Turning.{waiting_without}
 use Rattle.follow_core.proofs.Decisions.{cause_as}
-use Rattle.follow_core.proofs.Delivered.{held_is}
+use Rattle.follow_core.proofs.Delivered.{count_is}
 
 abbrev Answer : Type 0
 Answer = Result (FollowerState × Turn) FollowFault
@@ -34,7 +36,7 @@ module _ (follower : FollowerState) (disk : Option DiskState) (state : State)
     position_is : position_of (length state.blocks) state.waiting
         ≡ position_of (length follower.node.chain.digests) follower.waiting
     position_is =
-        ap (λ (n : ℕ). position_of n state.waiting) (sym (held_is follower disk state is))
+        ap (λ (n : ℕ). position_of n state.waiting) (sym (count_is follower disk state is))
         ∙ ap (position_of (length follower.node.chain.digests)) (sym is.waiting)
 
     pub none_further : position_of (length follower.node.chain.digests) follower.waiting ≡ None
@@ -152,6 +154,13 @@ module _ (follower : FollowerState) (node : NodeState) (waiting slice : List Wai
         (λ (f : FollowerState). position_of (length f.node.chain.digests) f.waiting ≡ None) view
         (found_as ∙ sym none)
 
+    -- none that is left is the next one
+    pub rest_free : (rest : List Waiting) (at : ℕ) → AreAhead (length node.chain.digests) waiting
+        → Some at ≡ position_of held slice → rest ≡ remove waiting at
+        → is_some (position_of (length node.chain.digests) rest) ≡ false
+    rest_free rest at ahead found removed = rw removed
+        (free_without (length node.chain.digests) waiting at ahead (found_as ∙ sym found))
+
     pub taken_out : (rest : List Waiting) (at : ℕ) (block : Waiting)
         → Some at ≡ position_of held slice → rest ≡ remove waiting at
         → block ≡ slice_index_or waiting at block
@@ -192,6 +201,12 @@ module _ (follower : FollowerState)
     pub none_waiting : follower.waiting ≡ waiting_without follower.waiting
         (position_of (length follower.node.chain.digests) follower.waiting)
     none_waiting = sym (ap (waiting_without follower.waiting) none)
+
+    pub none_turn : IsFurtherTurn follower.node
+        (due_in (length follower.node.chain.digests) follower.waiting) follower.node None
+    none_turn = subst
+        (λ (o : Option Waiting). IsFurtherTurn follower.node o follower.node None)
+        (sym (none_due (length follower.node.chain.digests) follower.waiting none)) refl
 
     pub none_any : false
         ≡ is_some (position_of (length follower.node.chain.digests) follower.waiting)
@@ -240,6 +255,20 @@ module _ (follower rest : FollowerState) (at : ℕ) (block : Waiting)
         (sym (one_due (length follower.node.chain.digests) follower.waiting at block taken.there
         taken.here))
         (subst (λ (b : List ℕ). KeepsLog now disk old new b) bytes_as keeps)
+
+    pub one_turn : (result : Answer)
+        → IfOk result (λ done. IsDecided rest.node block.index bytes done.0.node done.1)
+        → IfOk (made result) (λ done. IsFurtherTurn follower.node
+        (due_in (length follower.node.chain.digests) follower.waiting) done.0.node done.1)
+    one_turn (Ok done) is = subst
+        (λ (o : Option Waiting). IsFurtherTurn follower.node o done.0.node (Some done.1))
+        (sym (one_due (length follower.node.chain.digests) follower.waiting at block taken.there
+        taken.here))
+        (subst (λ (b : List ℕ). IsDecided follower.node block.index b done.0.node done.1)
+        bytes_as
+        (subst (λ (f : FollowerState).
+        IsDecided f.node block.index bytes done.0.node done.1) taken.rest_as is))
+    one_turn (Err fault) is = tt
 
     pub one_waiting : (result : Answer) → IfOk result (λ done. done.0.waiting ≡ rest.waiting)
         → IfOk (made result) (λ done. done.0.waiting ≡ waiting_without follower.waiting

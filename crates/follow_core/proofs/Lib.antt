@@ -1,4 +1,4 @@
-pub mod Counted
 pub mod Decisions
 pub mod Delivered
 pub mod Drained
+pub mod Examples

@@ -1,7 +1,6 @@
 -- A follower over its node, and what it reports of its turns.
-use Rattle.std.specs.Prelude.{◌≡◌, ◌≢◌, ◌⊎◌, ℕ, ◌^◌, ◌<◌, List, [], ◌∷◌, ◌++◌, length, Option, Some}
-use Rattle.std.specs.Prelude.{None, Result, Ok, Err}
-use Rattle.std.specs.List.{All, AllPairs}
+use Rattle.std.specs.Prelude.{◌≡◌, ◌⊎◌, ℕ, List, [], ◌∷◌, ◌++◌, length, Option, Some, None}
+use Rattle.std.specs.Prelude.{Result, Ok, Err}
 use Rattle.lc_io.specs.Disk.{DiskState}
 use Rattle.block_codec.specs.declared.block.Block.{Block}
 use Rattle.recovery.specs.rooted_chain.chain_exec.Compiled.{compiled_in}
@@ -19,13 +18,6 @@ use Rattle.follow_core.specs.declared.turn.FollowFault.{FollowFault}
 pub record FollowerState : Type 0 where
   pub node : NodeState
   pub waiting : List Waiting
-
--- The blocks that wait have different numbers of 32 bits, and none has the number 0, since each
--- comes after another. So how many there are fits in 32 bits too.
-pub record HaveOwnNumbers (waiting : List Waiting) : Type 0 where
-  pub apart : AllPairs (λ one other. one.number ≢ other.number) waiting
-  pub later : All (λ block. 0 < block.number) waiting
-  pub fits : All (λ block. block.number < 2 ^ 32) waiting
 
 -- The follower is in this state: its node is of these blocks, marked as they are, and these blocks
 -- wait. What is acknowledged is not kept: it is what the lines that were printed say.

@@ -1,9 +1,14 @@
 -- What the calls of a follower do whatever is known of its devices, and what their parts return.
-use Rattle.std.specs.Prelude.{◌≡◌, ℕ, Bool, true, false, List, [], ◌∷◌, ◌++◌, Option, Some}
-use Rattle.std.specs.Prelude.{None, Result, Ok, Err, slice_get}
+use Rattle.std.specs.Prelude.{◌≡◌, ℕ, ◌+◌, Bool, true, false, if◌then◌else◌, List, [], ◌∷◌, ◌++◌}
+use Rattle.std.specs.Prelude.{length, Option, Some, None, Result, Ok, Err, slice_get}
 use Rattle.std.specs.List.{remove}
 use Rattle.std.specs.Option.{option_and_then}
+use Rattle.lc_base.specs.declared.digest.Digest.{Digest}
 use Rattle.lc_io.specs.Disk.{DiskState}
+use Rattle.block_codec.specs.Placement.{bytes_digest, is_same_digest}
+use Rattle.block_codec.specs.declared.placement.Misplaced.TheVariants as misplaced
+use Rattle.recovery.specs.chain_replay.declared.refusal.Refusal.{Refusal}
+use Rattle.recovery.specs.chain_replay.declared.refusal.Refusal.TheVariants as refusals
 use Rattle.recovery.specs.Node.{NodeState, KeepsLog}
 use Rattle.recovery.specs.declared.node.Appended.{Appended}
 use Rattle.recovery.specs.declared.node.Appended.TheVariants as appendeds
@@ -24,6 +29,7 @@ use Rattle.follow_core.specs.declared.turn.FollowFault.TheVariants as faults
 
 -- The blocks that wait after the frame `index` arrived.
 abbrev pub waiting_with : List Waiting → ℕ → List ℕ → Arrival → List Waiting
+waiting_with waiting index bytes (arrivals.Held number) = waiting
 waiting_with waiting index bytes arrivals.Due = waiting
 waiting_with waiting index bytes (arrivals.Early number) =
     waiting ++ record { index = index; number = number; bytes = bytes } ∷ []
@@ -37,6 +43,56 @@ waiting_without waiting (Some at) = remove waiting at
 -- The waiting block that is the next one, if `held` blocks are held.
 abbrev pub due_in : ℕ → List Waiting → Option Waiting
 due_in held waiting = option_and_then (slice_get waiting) (position_of held waiting)
+
+-- ---- what a turn is, whatever is known of the devices
+
+-- Whether the block is the next one, and none with its number waits, so that the chain decides
+-- about it.
+abbrev pub is_due : Arrival → Bool
+is_due (arrivals.Held number) = false
+is_due arrivals.Due = true
+is_due (arrivals.Early number) = false
+is_due (arrivals.Dropped cause) = false
+
+-- What becomes of the block of the frame `index`, whose number is held, by the digest of the held
+-- one and by its own: it is known, or dropped as a fork.
+abbrev pub held_turn : ℕ → ℕ → Digest → Digest → Turn
+held_turn index number have digest =
+    if is_same_digest have digest then turns.Known number
+    else turns.Dropped index (causes.Refused (refusals.Placed (misplaced.Fork have)))
+
+-- The chain decided about these bytes of the frame `index`. If their block was added, its number is
+-- that of the next one, and the node has the digest of the bytes after the others, and as many more
+-- rows as are reported. Else the node is as it was, and the block is known, or dropped with the
+-- chain's reason and this index.
+abbrev pub IsDecided : NodeState → ℕ → List ℕ → NodeState → Turn → Type 0
+IsDecided old index bytes node (turns.Block number rows receipts root) =
+    (number ≡ length old.chain.digests)
+    × (node.chain.digests ≡ old.chain.digests ++ bytes_digest bytes ∷ [])
+    × (length node.chain.rows ≡ length old.chain.rows + rows)
+IsDecided old index bytes node (turns.Known number) = node ≡ old
+IsDecided old index bytes node (turns.Kept number) = ⊥
+IsDecided old index bytes node (turns.Dropped other cause) = (node ≡ old) × (other ≡ index)
+    × ((refusal : Refusal) × (cause ≡ causes.Refused refusal))
+
+-- The first turn about these bytes of the frame `index`, by what was to become of them.
+abbrev pub IsFirstTurn : NodeState → ℕ → List ℕ → Arrival → NodeState → Turn → Type 0
+IsFirstTurn old index bytes (arrivals.Held number) node turn = (node ≡ old)
+    × ((have : Digest) × (slice_get old.chain.digests number ≡ Some have)
+    × (turn ≡ held_turn index number have (bytes_digest bytes)))
+IsFirstTurn old index bytes arrivals.Due node turn = IsDecided old index bytes node turn
+IsFirstTurn old index bytes (arrivals.Early number) node turn =
+    (node ≡ old) × (turn ≡ turns.Kept number)
+IsFirstTurn old index bytes (arrivals.Dropped cause) node turn =
+    (node ≡ old) × (turn ≡ turns.Dropped index cause)
+
+-- A further turn, about the waiting block that was the next one, if there was one.
+abbrev pub IsFurtherTurn : NodeState → Option Waiting → NodeState → Option Turn → Type 0
+IsFurtherTurn old None node None = node ≡ old
+IsFurtherTurn old None node (Some turn) = ⊥
+IsFurtherTurn old (Some block) node None = ⊥
+IsFurtherTurn old (Some block) node (Some turn) =
+    IsDecided old block.index block.bytes node turn
 
 -- ---- the disk
 

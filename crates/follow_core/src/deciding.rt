@@ -1,24 +1,35 @@
-//! What becomes of a block that the chain decides about.
+//! What becomes of a block whose number is held, and of one about which the chain decides.
 
 ghost use Rattle.std.specs.{
-  Prelude.{◌≡◌, ℕ, List, Some, false, true, IfOk, IsErrOf},
+  Prelude.{◌≡◌, ℕ, ◌<◌, List, Some, Ok, slice_get, length, false, true, IfOk, IsErrOf},
   Option.{is_some},
 };
-ghost use Rattle.lc_base.specs.Faults.{HasCause};
+ghost use Rattle.lc_base.specs.{
+  Faults.{HasCause},
+  declared.digest.Digest.{Digest as Digests},
+};
+ghost use Rattle.block_codec.specs.{
+  Placement.{bytes_digest, digest_of},
+  Reading.{block_in},
+  declared.block.Block.{Block as Blocks},
+};
 ghost use Rattle.disk_model.specs.{Disk.{Keeps, content_of}, Leaving.{LeavesWire}};
 ghost use Rattle.scratch_model.specs.Scratch.{is_known, Serves};
 ghost use Rattle.recovery.specs.Node.{HandsBack, IsReady, KeepsLog, is_refusal, stored_placement};
-ghost use Rattle.follower_steps.specs.Steps.{State, decided};
+ghost use Rattle.follower_steps.specs.Steps.{AreAhead, State, decided, position_of};
 ghost use Rattle.follow_core.specs.{
-  Follower.{HasMade, HaveOwnNumbers, IsFollowerOf, IsTurnImage},
-  Turning.{adds, node_turn, reaches_disk, refused_turn, turn_of, with_waiting},
+  Follower.{HasMade, IsFollowerOf, IsTurnImage},
+  Turning.{IsDecided, adds, held_turn, node_turn, reaches_disk, refused_turn, turn_of},
+  Turning.{with_waiting},
 };
 
 use crate::follower::Follower;
 use crate::turn::{FollowFault, Turn};
+use block_codec::{Misplaced, block_digest};
 use disk_model::Disk;
 use follower_steps::{Cause, Waiting};
-use recovery::{AppendError, Appended, Node};
+use lc_base::Digest;
+use recovery::{AppendError, Appended, Node, Refusal};
 use scratch_model::Scratch;
 use std::alloc::Global;
 
@@ -71,6 +82,18 @@ fn refused_turn(
     }
 }
 
+/// What becomes of the block of the frame `index`, whose number is held, by the digest of the held
+/// one and by its own: it is known, or dropped as a fork.
+fn held_turn(index: u32, number: u32, have: Digest, digest: Digest) -> Turn
+    ensures { result ≡ held_turn index number have digest }
+{
+    if have == digest {
+        return Turn::Known { number };
+    }
+    let cause = Cause::Refused(Refusal::Placed(Misplaced::Fork { have }));
+    Turn::Dropped { index, cause }
+}
+
 /// What is returned for the block of the frame `index`, by what its node returned.
 fn node_turn(
     answer: Result<(Node, Appended), (Option<Node>, AppendError)>,
@@ -90,7 +113,7 @@ fn with_waiting(
     answer: Result<(Node, Turn), FollowFault>,
     waiting: Vec<Waiting>,
 ) -> Result<(Follower, Turn), FollowFault>
-    requires { HaveOwnNumbers waiting.items }
+    requires { IfOk answer (λ done. AreAhead (length done.0.chain.digests) waiting.items) }
     ensures { result ≡ with_waiting waiting.items answer }
 {
     match answer {
@@ -100,6 +123,22 @@ fn with_waiting(
 }
 
 impl Follower {
+    /// What becomes of the bytes of the frame `index`, which spell a block whose number is held: it
+    /// is known if they have the digest of the held one, else dropped as a fork.
+    pub(crate) fn known_or_fork(&self, index: u32, number: u32, bytes: &[u8]) -> Turn
+        requires held { number < length self.now.node.chain.digests }
+        ensures turn { (have : Digests) × (slice_get self.now.node.chain.digests number ≡ Some have)
+            × (result ≡ held_turn index number have (bytes_digest bytes.now)) }
+        // The digest of bytes that spell a block is that of the block.
+        ensures spelled { (block : Blocks) → block_in bytes.now ≡ Ok block
+            → bytes_digest bytes.now ≡ digest_of block }
+    {
+        match self.node.digest(number) {
+            Some(have) => held_turn(index, number, have, block_digest(bytes)),
+            None => unreachable!(),
+        }
+    }
+
     /// The chain decides about the bytes of the frame `index`: a block is added, known or dropped.
     pub(crate) fn decided<M: Disk, S: Scratch>(
         self,
@@ -111,6 +150,9 @@ impl Follower {
     ) -> Result<(Follower, Turn), FollowFault>
         requires ready { IsReady self.node (M.disk machine.old (M.now machine.old))
             (S.state scratch.old) }
+        // The next block doesn't wait, so if one is added, none that waits has its number.
+        requires free { is_some (position_of (length self.node.chain.digests) self.waiting)
+            ≡ false }
         ensures answer { is_known (S.state scratch.old) ≡ true → (state : State)
             → IsFollowerOf self (M.disk machine.old (M.now machine.old)) state
             → HasMade (M.disk machine.new (M.now machine.new)) state.blocks
@@ -122,6 +164,8 @@ impl Follower {
             → Keeps M.now M.disk machine.old machine.new
             (IsTurnImage state (decided stored_placement state index bytes.now).state) }
         ensures log_images { KeepsLog M.now M.disk machine.old machine.new bytes.now }
+        ensures turn { IfOk result
+            (λ done. IsDecided self.node index bytes.now done.0.node done.1) }
         ensures ready { IfOk result (λ done. IsReady done.0.node
             (M.disk machine.new (M.now machine.new)) (S.state scratch.new)) }
         ensures marked { IfOk result

@@ -1,18 +1,17 @@
 //! The first turn of a delivery.
 
 ghost use Rattle.std.specs.{
-  Prelude.{◌≡◌, ℕ, ◌<◌, List, Some, [], ◌∷◌, ◌++◌, length, false, true, IfOk, IsErrOf},
-  Option.{is_some},
+  Prelude.{◌≡◌, ℕ, List, Some, [], ◌∷◌, ◌++◌, length, false, true, IfOk, IsErrOf},
 };
 ghost use Rattle.lc_base.specs.Faults.{HasCause};
 ghost use Rattle.disk_model.specs.{Disk.{Keeps, content_of}, Leaving.{LeavesWire}};
 ghost use Rattle.scratch_model.specs.Scratch.{is_known, Serves};
 ghost use Rattle.block_codec.specs.Reading.{block_in};
 ghost use Rattle.recovery.specs.Node.{IsReady, KeepsLog, stored_placement};
-ghost use Rattle.follower_steps.specs.Steps.{State, arrival_in, first_turn, position_of};
+ghost use Rattle.follower_steps.specs.Steps.{State, arrival_in, first_turn};
 ghost use Rattle.follow_core.specs.{
   Follower.{HasMade, IsFollowerOf, IsTurnImage},
-  Turning.{adds, reaches_disk, waiting_with},
+  Turning.{IsFirstTurn, adds, is_due, reaches_disk, waiting_with},
 };
 
 use crate::follower::Follower;
@@ -24,10 +23,20 @@ use scratch_model::Scratch;
 use std::alloc::Global;
 
 impl Follower {
+    /// What is to become of these bytes.
+    fn arrival(&self, alloc: Global, bytes: &[u8]) -> Result<Arrival, Memory>
+        ensures { IfOk result (λ arrival. arrival
+            ≡ arrival_in (length self.now.node.chain.digests) self.now.waiting
+            (block_in bytes.now)) }
+    {
+        let held = self.node.blocks();
+        arrival_in(alloc, held, self.waiting.as_slice(), bytes)
+    }
+
     /// Keeps a block until those before it are held. If memory runs out the follower is discarded.
     fn kept(self, index: u32, number: u32, bytes: Bytes) -> Result<(Follower, Turn), FollowFault>
-        requires later { 0 < number }
-        requires free { is_some (position_of number self.waiting) ≡ false }
+        requires early { arrival_in (length self.node.chain.digests) self.waiting (block_in bytes)
+            ≡ Arrival.Early number }
         ensures node { IfOk result (λ done. done.0.node ≡ self.node) }
         ensures waiting { IfOk result (λ done. done.0.waiting
             ≡ self.waiting ++ record { index = index; number = number; bytes = bytes } ∷ []) }
@@ -50,10 +59,10 @@ impl Follower {
         }
     }
 
-    /// The first turn of the delivery of the frame `index`, which has these bytes. Bytes that spell
-    /// no block are dropped, and so is a block that is too far ahead, and one whose number another
-    /// waits with. A block that comes early waits. The chain decides about a block whose number is
-    /// held, and about its next one: it is added, known or dropped.
+    /// The first turn of the delivery of the frame `index`, which has these bytes. A block whose
+    /// number is held is known, or dropped as a fork. About the next block the chain decides: it is
+    /// added, or dropped. A block that comes early waits. Bytes that spell no block are dropped,
+    /// and so is a block that is too far ahead, or has the number of one that waits.
     ///
     /// The follower is discarded if the disk or the scratch device fails, or if memory runs out.
     pub fn deliver<M: Disk, S: Scratch>(
@@ -82,6 +91,16 @@ impl Follower {
         // Whether or not that is known: a crash at any moment leaves the chain from before the
         // call, or that with the block that the bytes spell, if rows are not counted.
         ensures log_images { KeepsLog M.now M.disk machine.old machine.new bytes }
+        // Whatever is known of the devices: if the bytes spell no block, or one that isn't due,
+        // the turn is told by the digests of the held blocks and by what waits, the node is as it
+        // was, and no device is called. If the block is due, the chain decides.
+        ensures turn { IfOk result
+            (λ done. IsFirstTurn self.node index bytes
+            (arrival_in (length self.node.chain.digests) self.waiting (block_in bytes))
+            done.0.node done.1) }
+        ensures unused { is_due
+            (arrival_in (length self.node.chain.digests) self.waiting (block_in bytes)) ≡ false
+            → (machine.new ≡ machine.old) × (scratch.new ≡ scratch.old) }
         // A follower that is returned is ready for the next call, its log is marked exactly if it
         // was, and the block waits exactly if it came early.
         ensures ready { IfOk result (λ done. IsReady done.0.node
@@ -103,8 +122,11 @@ impl Follower {
         ensures scratch { Serves S.state S.scratch_faults scratch.old scratch.new
             (IsErrOf result FollowFault.ScratchFault) }
     {
-        let held = self.node.blocks();
-        match arrival_in(alloc, held, self.waiting.as_slice(), bytes.as_bytes()) {
+        match self.arrival(alloc, bytes.as_bytes()) {
+            Ok(Arrival::Held { number }) => {
+                let turn = self.known_or_fork(index, number, bytes.as_bytes());
+                Ok((self, turn))
+            }
             Ok(Arrival::Due) => self.decided(alloc, machine, scratch, index, bytes.as_bytes()),
             Ok(Arrival::Early { number }) => self.kept(index, number, bytes),
             Ok(Arrival::Dropped(cause)) => Ok((self, Turn::Dropped { index, cause })),

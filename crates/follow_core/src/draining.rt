@@ -1,7 +1,7 @@
 //! A further turn of a delivery.
 
 ghost use Rattle.std.specs.{
-  Prelude.{◌≡◌, ℕ, List, Some, length, false, true, IfOk, IsErrOf},
+  Prelude.{◌≡◌, ℕ, List, Some, None, Ok, length, false, true, IfOk, IsErrOf},
   Option.{is_some},
 };
 ghost use Rattle.lc_base.specs.Faults.{HasCause};
@@ -14,7 +14,7 @@ ghost use Rattle.follower_steps.specs.{
 };
 ghost use Rattle.follow_core.specs.{
   Follower.{HasMadeAny, IsFollowerOf, IsTurnImage},
-  Turning.{KeepsLogOf, adds_any, due_in, made, reaches_disk, waiting_without},
+  Turning.{IsFurtherTurn, KeepsLogOf, adds_any, due_in, made, reaches_disk, waiting_without},
 };
 
 use crate::follower::Follower;
@@ -74,6 +74,13 @@ impl Follower {
             (λ done. done.0.node.log.is_marked ≡ self.node.log.is_marked) }
         ensures waiting { IfOk result (λ done. done.0.waiting ≡ waiting_without self.waiting
             (position_of (length self.node.chain.digests) self.waiting)) }
+        // Whatever is known of the devices, the chain decides about the block that is taken out. If
+        // there is none, nothing is done: no device is called, and memory doesn't run out.
+        ensures turn { IfOk result (λ done. IsFurtherTurn self.node
+            (due_in (length self.node.chain.digests) self.waiting) done.0.node done.1) }
+        ensures none { position_of (length self.node.chain.digests) self.waiting ≡ None
+            → (result ≡ Ok (self, None)) × (machine.new ≡ machine.old)
+            × (scratch.new ≡ scratch.old) }
         ensures any { IfOk result (λ done. is_some done.1
             ≡ is_some (position_of (length self.node.chain.digests) self.waiting)) }
         // If no block was stored and the disk did not fail, the disk was not touched, and the

@@ -1,14 +1,22 @@
 //! A follower: a node, and the blocks that wait for those before them.
 
-ghost use Rattle.std.specs.Prelude.{◌≡◌, [], length};
+ghost use Rattle.std.specs.{
+  Prelude.{◌≡◌, ◌+◌, ◌≤◌, [], length},
+  Option.{is_some},
+};
+ghost use Rattle.follower_steps.specs.{
+  Steps.{AreAhead, position_of},
+  declared.limits.TheConstants.{MAX_AHEAD},
+};
 
-use follower_steps::Waiting;
+use follower_steps::{Waiting, position_of};
 use recovery::Node;
 use std::alloc::Global;
 use std::marker::Model;
 
 /// A node that takes blocks in any order, and the blocks that wait for those before them: at most
-/// one with each number. Nothing of these is on the disk, so a crash loses them.
+/// one with each number, which is that of the next block or at most `MAX_AHEAD` above it. Nothing
+/// of these is on the disk, so a crash loses them.
 #[derive(Drop)]
 pub struct Follower {
     pub(crate) node: Node,
@@ -16,7 +24,9 @@ pub struct Follower {
 }
 
 impl Model for Follower {
-    ghost use Rattle.follow_core.specs.Follower.{FollowerState, HaveOwnNumbers};
+    ghost use Rattle.std.specs.Prelude.{length};
+    ghost use Rattle.follow_core.specs.Follower.{FollowerState};
+    ghost use Rattle.follower_steps.specs.Steps.{AreAhead};
     ghost use Rattle.contract_tree.specs.contracts.tree.Contract as contracts;
     ghost use Rattle.std.specs.Coded.{codes};
 
@@ -27,7 +37,8 @@ impl Model for Follower {
     ghost view = { λ follower. record
         { node = follower.node; waiting = follower.waiting.items } };
 
-    ghost invariant = { λ follower. HaveOwnNumbers follower.waiting.items };
+    ghost invariant = { λ follower. AreAhead (length follower.node.chain.digests)
+        follower.waiting.items };
 }
 
 impl Follower {
@@ -41,11 +52,23 @@ impl Follower {
         }
     }
 
-    /// How many blocks wait.
+    /// How many blocks wait: at most `MAX_AHEAD`, and one more if `deliver` is called again before
+    /// `drain` has returned `None`.
     pub fn waiting(&self) -> u32
-        ensures { result ≡ length self.now.waiting }
+        ensures count { result ≡ length self.now.waiting }
+        ensures ahead { AreAhead (length self.now.node.chain.digests) self.now.waiting }
+        ensures few { result ≤ MAX_AHEAD + 1 }
     {
         self.waiting.len() as u32
+    }
+
+    /// Whether the next block waits: `drain` makes a turn exactly if it does.
+    pub fn has_due(&self) -> bool
+        ensures { result ≡ is_some
+            (position_of (length self.now.node.chain.digests) self.now.waiting) }
+    {
+        let held = self.node.blocks();
+        position_of(self.waiting.as_slice(), held).is_some()
     }
 
     /// Its node.

@@ -1,5 +1,5 @@
-//! A follower: a node that takes the blocks of its leader's chain in any order. Its chain is always
-//! a prefix of the leader's.
+//! A follower: a node that takes the blocks of its leader's chain in any order. Where all that
+//! arrives is its leader's, its chain is always a prefix of the leader's.
 #![tactic(auto)]
 
 mod deciding;

@@ -1,8 +1,8 @@
 -- How many blocks can wait, and what it says that none waits with some number.
 use Rattle.std.proofs.Common.{◌≡◌, ◌≢◌, ◌⊎◌, inl, inr, ℕ, suc, ◌+◌, ◌-◌, ◌<◌, ◌≤◌, Bool, true}
 use Rattle.std.proofs.Common.{false, cond, eqb}
-use Rattle.std.proofs.Common.{List, [], ◌∷◌, map, length, get_or, refl, sym, ◌∙◌, arith}
-use Rattle.std.specs.Prelude.{Some, None, is_some, ◌==◌, nat_lt}
+use Rattle.std.proofs.Common.{List, [], ◌∷◌, map, length, get_or, refl, sym, ◌∙◌, ap, arith}
+use Rattle.std.specs.Prelude.{Option, Some, None, is_some, ◌==◌, nat_lt, slice_get}
 use Rattle.std.specs.List.{All, AllPairs, list_any, position_or_len, remove, IsDistinct}
 use Rattle.std.proofs.lemmas.Bool.{eqb-true, eqb-false, ne_eqb, ltb-false, cases_lt}
 use Rattle.std.proofs.lemmas.List.{length-map}
@@ -11,6 +11,7 @@ use Rattle.std.proofs.lemmas.List.Elements.{All-head, All-tail, All-map, recursi
 use Rattle.std.proofs.lemmas.List.Quantifiers.{position-Some}
 use Rattle.std.proofs.lemmas.List.Sums.{fails_before_first}
 use Rattle.std.proofs.lemmas.Map.Keys.{IsDistinct-cons}
+use Rattle.std.proofs.lemmas.Option.{get_or_from_slice_get}
 use Rattle.std.proofs.lemmas.Map.Steps.{length-le_from_distinct_below}
 use Rattle.follower_steps.specs.declared.waiting.Waiting.{Waiting}
 use Rattle.follower_steps.specs.Steps.{position_of}
@@ -97,6 +98,31 @@ all_others number waiting none at d within =
     (position_or_len test waiting) none) in
     eqb-false (get_or waiting at d).number number
     (fails_before_first test waiting at d (omega (arith, within, past)))
+
+-- and the other way round
+no_such : (number : ℕ) (waiting : List Waiting) (found : Option ℕ)
+    → position_of number waiting ≡ found → All (λ (w : Waiting). w.number ≢ number) waiting
+    → is_some found ≡ false
+no_such number waiting None found others = refl
+no_such number waiting (Some at) found others =
+    let nothing : Waiting = record { index = 0; number = 0; bytes = [] } in
+    let here = position-Some (λ (w : Waiting). w.number == number) waiting at nothing found in
+    absurd (others at nothing here.0 (eqb-true _ _ here.1))
+
+pub no_position : (number : ℕ) (waiting : List Waiting)
+    → All (λ (w : Waiting). w.number ≢ number) waiting
+    → is_some (position_of number waiting) ≡ false
+no_position number waiting others =
+    no_such number waiting (position_of number waiting) refl others
+
+-- the block at the position that was found has the number
+pub at_number : (number : ℕ) (waiting : List Waiting) (at : ℕ) (block : Waiting)
+    → position_of number waiting ≡ Some at → slice_get waiting at ≡ Some block
+    → block.number ≡ number
+at_number number waiting at block found here =
+    let test = λ (w : Waiting). w.number == number in
+    ap (λ (w : Waiting). w.number) (sym (get_or_from_slice_get waiting at block block here))
+    ∙ eqb-true _ _ (position-Some test waiting at block found).1
 
 -- if one with the number is taken out, none is left with it
 pub rest_others : (number : ℕ) (waiting : List Waiting) (at : ℕ) → AllPairs Differ waiting

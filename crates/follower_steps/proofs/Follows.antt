@@ -50,7 +50,7 @@ pub all_but_one : {X : Type 0} (P : X → Type 0) (xs : List X) (at : ℕ) → A
     → All P (remove xs at)
 all_but_one P xs at all = All-append P _ _ (All-take P at xs all) (All-drop P (suc at) xs all)
 
-found : {X : Type 0} (P : X → Type 0) (xs : List X) (at : ℕ) (x : X) → All P xs
+pub found : {X : Type 0} (P : X → Type 0) (xs : List X) (at : ℕ) (x : X) → All P xs
     → slice_get xs at ≡ Some x → P x
 found P xs at x all is =
     subst P (get_or_from_slice_get xs at x x is) (all at x (slice_get_within xs at x is))
@@ -84,6 +84,7 @@ module _ (place : PlacerByMark) (places : PlacesByNumber place) (leader : List B
     first_follows : (index : ℕ) (bytes : List ℕ) → IsFrameOf leader bytes → (state : State)
         → Follows leader state → Follows leader (first_turn place state index bytes).state
     first_follows index bytes frame state f = first_cases (Follows leader) place state index bytes f
+        (λ number is. decided_follows state index bytes frame f)
         (λ number is. record {
           prefix = f.prefix;
           waiting = All-push (λ (w : Waiting). IsFrameOf leader w.bytes) state.waiting
@@ -153,10 +154,12 @@ module _ (place : PlacerByMark) where
 
   first_holds : (least : ℕ) (index : ℕ) (bytes : List ℕ) (state : State) → HasAtLeast least state
       → HasAtLeast least (first_turn place state index bytes).state
-  first_holds least index bytes state held = first_cases (HasAtLeast least) place state index bytes
-      held (λ number is. held)
-      (λ is. decided_cases (HasAtLeast least) place state index bytes held
-      (λ block read next. longer state.blocks block least held))
+  first_holds least index bytes state held =
+      let decided_holds : HasAtLeast least (decided place state index bytes).state =
+      decided_cases (HasAtLeast least) place state index bytes held
+      (λ block read next. longer state.blocks block least held) in
+      first_cases (HasAtLeast least) place state index bytes held (λ number is. decided_holds)
+      (λ number is. held) (λ is. decided_holds)
 
   further_holds : (least : ℕ) (state : State) → HasAtLeast least state
       → HasAtLeast least (state_after state (further_turn place state))

@@ -11,7 +11,7 @@ use Rattle.block_codec.specs.declared.placement.Placement.TheVariants.{Known, Ne
 use Rattle.chain_replay.specs.Judging.{Placer, judgement_of, judged_by_placement}
 use Rattle.follower_steps.specs.declared.waiting.Waiting.{Waiting}
 use Rattle.follower_steps.specs.declared.waiting.Arrival.{Arrival}
-use Rattle.follower_steps.specs.declared.waiting.Arrival.TheVariants.{Due, Early, Dropped}
+use Rattle.follower_steps.specs.declared.waiting.Arrival.TheVariants.{Held, Due, Early, Dropped}
 use Rattle.follower_steps.specs.Steps.{PlacerByMark, State, Step, judged, decided, kept, arrived}
 use Rattle.follower_steps.specs.Steps.{arrival_in, first_turn, further_turn, turn_at, taken_out}
 use Rattle.follower_steps.specs.Steps.{position_of, without}
@@ -54,25 +54,32 @@ module _ (P : State → Type 0) (place : PlacerByMark) (state : State) where
   arrived_cases : (index : ℕ) (bytes : List ℕ) (arrival : Arrival)
       → arrival_in (length state.blocks) state.waiting (block_in bytes) ≡ arrival → P state
       → ((number : ℕ)
+      → arrival_in (length state.blocks) state.waiting (block_in bytes) ≡ Held number
+      → P (decided place state index bytes).state)
+      → ((number : ℕ)
       → arrival_in (length state.blocks) state.waiting (block_in bytes) ≡ Early number
       → P (kept state index number bytes).state)
       → (arrival_in (length state.blocks) state.waiting (block_in bytes) ≡ Due
       → P (decided place state index bytes).state)
       → P (arrived place state index bytes arrival).state
-  arrived_cases index bytes Due is same keep decide = decide is
-  arrived_cases index bytes (Early number) is same keep decide = keep number is
-  arrived_cases index bytes (Dropped cause) is same keep decide = same
+  arrived_cases index bytes (Held number) is same hold keep decide = hold number is
+  arrived_cases index bytes Due is same hold keep decide = decide is
+  arrived_cases index bytes (Early number) is same hold keep decide = keep number is
+  arrived_cases index bytes (Dropped cause) is same hold keep decide = same
 
   -- a first turn leaves the follower as it is, keeps the block, or lets the chain decide about it
   pub first_cases : (index : ℕ) (bytes : List ℕ) → P state
+      → ((number : ℕ)
+      → arrival_in (length state.blocks) state.waiting (block_in bytes) ≡ Held number
+      → P (decided place state index bytes).state)
       → ((number : ℕ)
       → arrival_in (length state.blocks) state.waiting (block_in bytes) ≡ Early number
       → P (kept state index number bytes).state)
       → (arrival_in (length state.blocks) state.waiting (block_in bytes) ≡ Due
       → P (decided place state index bytes).state)
       → P (first_turn place state index bytes).state
-  first_cases index bytes same keep decide = arrived_cases index bytes
-      (arrival_in (length state.blocks) state.waiting (block_in bytes)) refl same keep decide
+  first_cases index bytes same hold keep decide = arrived_cases index bytes
+      (arrival_in (length state.blocks) state.waiting (block_in bytes)) refl same hold keep decide
 
   out_cases : (at : ℕ) (found : Option Waiting) → slice_get state.waiting at ≡ found → P state
       → ((block : Waiting) → slice_get state.waiting at ≡ Some block
@@ -151,7 +158,7 @@ module _ (place : PlacerByMark) where
       rw same (decided_cases (λ (s : State). length s.waiting + 1 ≡ length state.waiting) place
       (without state at) block.index block.bytes fewer (λ b read next. fewer))
 
-  fewer_at : (state : State) (found : Option ℕ) (step : Step)
+  pub fewer_at : (state : State) (found : Option ℕ) (step : Step)
       → turn_at place state found ≡ Some step
       → length step.state.waiting + 1 ≡ length state.waiting
   fewer_at state None step made = absurd (cc made)

@@ -20,11 +20,17 @@ after_further place (suc more) state =
     after_further place more (state_after state (further_turn place state))
 
 -- The follower after so many turns of the delivery of the frame `index`, or after all if there are
--- fewer.
+-- fewer. Nothing is acknowledged here.
 abbrev pub after_turns : PlacerByMark → ℕ → List ℕ → ℕ → State → State
 after_turns place index bytes zero state = state
 after_turns place index bytes (suc more) state =
     after_further place more (first_turn place state index bytes).state
+
+-- What the delivery of the frame `index` makes in the turn after so many others, if it has one.
+abbrev pub turn_after : PlacerByMark → ℕ → List ℕ → ℕ → State → Option Step
+turn_after place index bytes zero state = Some (first_turn place state index bytes)
+turn_after place index bytes (suc before) state =
+    further_turn place (after_turns place index bytes (suc before) state)
 
 -- The follower after all further turns: each takes out one of the blocks that wait.
 abbrev pub settled : PlacerByMark → State → State
@@ -55,7 +61,8 @@ stopped_in before next is_stored =
       acknowledged = length before.blocks;
     }
 
--- A crash within the delivery of the frame `index`, in the last of so many turns.
+-- A crash within the delivery of the frame `index`, in the last of so many turns. If the delivery
+-- has fewer, it crashes after all of them, and all blocks that are held then are acknowledged.
 abbrev pub crashed_within : PlacerByMark → State → ℕ → List ℕ → ℕ → Bool → State
 crashed_within place state index bytes zero is_stored = emptied state
 crashed_within place state index bytes (suc before) is_stored =

@@ -1,13 +1,17 @@
 -- Laws of a follower.
-use Rattle.std.specs.Prelude.{◌≡◌, ◌≢◌, ℕ, ◌+◌, ◌<◌, ◌≤◌, Bool, List, ◌++◌, length, None}
-use Rattle.std.specs.List.{All, AllPairs}
+use Rattle.std.specs.Prelude.{◌≡◌, ◌≢◌, ℕ, ◌<◌, ◌≤◌, Bool, List, ◌++◌, length, None, IfSome}
+use Rattle.std.specs.List.{All}
 use Rattle.block_codec.specs.declared.block.Block.{Block}
+use Rattle.block_codec.specs.declared.placement.Misplaced.TheVariants as misplaced
 use Rattle.chain_replay.specs.chain_exec.Compiled.{Compiler}
 use Rattle.chain_replay.specs.Chain.{IsChain, placement_by_mark}
+use Rattle.chain_replay.specs.declared.refusal.Refusal.TheVariants as refusals
+use Rattle.follower_steps.specs.declared.cause.Cause.TheVariants as causes
 use Rattle.follower_steps.specs.declared.limits.TheConstants.{MAX_AHEAD}
 use Rattle.follower_steps.specs.declared.waiting.Waiting.{Waiting}
-use Rattle.follower_steps.specs.Steps.{PlacerByMark, State, started, further_turn}
-use Rattle.follower_steps.specs.Events.{Event, AreEventsOf, after, settled}
+use Rattle.follower_steps.specs.Steps.{PlacerByMark, State, AreAhead, started, further_turn}
+use Rattle.follower_steps.specs.Steps.{Turned, Added, Known, Kept, Dropped}
+use Rattle.follower_steps.specs.Events.{Event, AreEventsOf, after, settled, turn_after}
 
 -- ---- a follower and its leader
 
@@ -42,12 +46,11 @@ abbrev pub DeliveriesLeaveNoneDue : Type 0
 DeliveriesLeaveNoneDue = (place : PlacerByMark) (state : State)
     → further_turn place (settled place state) ≡ None
 
--- The blocks that wait have different numbers, above that of the next block by at most `MAX_AHEAD`,
--- and so there are at most `MAX_AHEAD`.
+-- What holds of the blocks that wait between two deliveries: they are ahead, the next block isn't
+-- among them, and so there are at most `MAX_AHEAD`.
 pub record AreNearby (held : ℕ) (waiting : List Waiting) : Type 0 where
-  pub apart : AllPairs (λ one other. one.number ≢ other.number) waiting
+  pub ahead : AreAhead held waiting
   pub early : All (λ block. held < block.number) waiting
-  pub near : All (λ block. block.number ≤ held + MAX_AHEAD) waiting
   pub few : length waiting ≤ MAX_AHEAD
 
 -- After any events the blocks that wait are nearby.
@@ -55,3 +58,19 @@ abbrev pub WaitsNearby : Type 0
 WaitsNearby = (compile : Compiler) (blocks : List Block) (marked : Bool) (events : List Event)
     → let state = after (placement_by_mark compile) (started blocks marked) events in
     AreNearby (length state.blocks) state.waiting
+
+-- The chain didn't refuse the block because the next one has another number.
+abbrev pub IsNotRefusedForNumber : Turned → Type 0
+IsNotRefusedForNumber (Added block) = Unit {0}
+IsNotRefusedForNumber (Known number) = Unit {0}
+IsNotRefusedForNumber (Kept number) = Unit {0}
+IsNotRefusedForNumber (Dropped index cause) =
+    (want : ℕ) → cause ≢ causes.Refused (refusals.Placed (misplaced.Number want))
+
+-- After any events, no turn of one more delivery is such a refusal.
+abbrev pub RefusesNoneForNumber : Type 0
+RefusesNoneForNumber = (compile : Compiler) (blocks : List Block) (marked : Bool)
+    (events : List Event) (index : ℕ) (bytes : List ℕ) (before : ℕ)
+    → let place = placement_by_mark compile in
+    IfSome (turn_after place index bytes before (after place (started blocks marked) events))
+    (λ step. IsNotRefusedForNumber step.turned)

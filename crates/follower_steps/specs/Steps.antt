@@ -1,8 +1,8 @@
 -- A follower: what it keeps, and what becomes of each block that is delivered to it.
-use Rattle.std.specs.Prelude.{ℕ, ◌-◌, ◌==◌, Bool, nat_lt, if◌then◌else◌, List, [], ◌∷◌, ◌++◌}
-use Rattle.std.specs.Prelude.{length}
+use Rattle.std.specs.Prelude.{◌≡◌, ◌≢◌, ◌≤◌, ℕ, ◌+◌, ◌-◌, ◌==◌, Bool, nat_lt, if◌then◌else◌, List}
+use Rattle.std.specs.Prelude.{[], ◌∷◌, ◌++◌, length}
 use Rattle.std.specs.Prelude.{slice_get, Option, Some, None, is_some, Result, Ok, Err}
-use Rattle.std.specs.List.{position, remove}
+use Rattle.std.specs.List.{All, AllPairs, position, remove}
 use Rattle.std.specs.Option.{option_map}
 use Rattle.block_codec.specs.Reading.{block_in}
 use Rattle.block_codec.specs.declared.block.Block.{Block}
@@ -39,6 +39,20 @@ started blocks marked =
 -- The index of the first block with this number among those that wait, if there is one.
 abbrev pub position_of : ℕ → List Waiting → Option ℕ
 position_of number waiting = position (λ (block : Waiting). block.number == number) waiting
+
+-- The bytes of a block that waits spell one with its number.
+abbrev pub SpellsItsNumber : Waiting → Type 0
+SpellsItsNumber waiting =
+    (block : Block) × (block_in waiting.bytes ≡ Ok block) × (block.number ≡ waiting.number)
+
+-- What holds of the blocks that wait, within a delivery too, if `held` blocks are held: they have
+-- different numbers, from that of the next block to `MAX_AHEAD` above it, and the bytes of each
+-- spell its number.
+pub record AreAhead (held : ℕ) (waiting : List Waiting) : Type 0 where
+  pub apart : AllPairs (λ one other. one.number ≢ other.number) waiting
+  pub new : All (λ block. held ≤ block.number) waiting
+  pub near : All (λ block. block.number ≤ held + MAX_AHEAD) waiting
+  pub own : All SpellsItsNumber waiting
 
 -- ---- one turn
 
@@ -88,12 +102,13 @@ dropped state index cause = record { state = state; turned = Dropped index cause
 -- ---- the first turn of a delivery
 
 -- What is to become of a block with this number, if `held` blocks are held and these wait: the
--- first of these that applies. Its number is held: it is due. It is more than `MAX_AHEAD` above the
--- number of held blocks: it is far. A block with its number waits: the number is taken. It is above
--- the number of held blocks: it is early. Otherwise it is the next one, and due.
+-- first of these that applies. Its number is held: it is known, or a fork. It is more than
+-- `MAX_AHEAD` above the number of held blocks: it is far. A block with its number waits: the number
+-- is taken. It is above the number of held blocks: it is early. Otherwise it is the next one, and
+-- due.
 abbrev pub arrival_of : ℕ → List Waiting → ℕ → Arrival
 arrival_of held waiting number =
-    if nat_lt number held then arrivals.Due
+    if nat_lt number held then arrivals.Held number
     else (if nat_lt MAX_AHEAD (number - held) then arrivals.Dropped (causes.Far held)
     else (if is_some (position_of number waiting) then arrivals.Dropped causes.Taken
     else (if nat_lt held number then arrivals.Early number
@@ -105,8 +120,10 @@ arrival_in held waiting (Ok block) = arrival_of held waiting block.number
 arrival_in held waiting (Err offset) =
     arrivals.Dropped (causes.Refused (refusals.Malformed offset))
 
--- The chain decides about a block that is due, an early one is kept, and all others are dropped.
+-- The chain decides about a block whose number is held, and about one that is due; an early one is
+-- kept, and all others are dropped.
 abbrev pub arrived : PlacerByMark → State → ℕ → List ℕ → Arrival → Step
+arrived place state index bytes (arrivals.Held number) = decided place state index bytes
 arrived place state index bytes arrivals.Due = decided place state index bytes
 arrived place state index bytes (arrivals.Early number) = kept state index number bytes
 arrived place state index bytes (arrivals.Dropped cause) = dropped state index cause

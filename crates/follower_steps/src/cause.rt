@@ -5,8 +5,8 @@ use chain_replay::Refusal;
 /// Why a follower drops a block, or bytes that spell none.
 #[derive(Clone, Copy, Debug, PartialEq, Eq)]
 pub enum Cause {
-    /// The chain refuses it, for this reason. It is never for the number: a block is judged only if
-    /// its number is held, or is the next one.
+    /// The chain refuses it, for this reason. That is never `Misplaced::Number`
+    /// (`refuses_none_for_number`): a block is judged only if its number is held, or is the next.
     Refused(Refusal),
     /// Its number is more than `MAX_AHEAD` above `held`, the number of blocks that are held.
     Far { held: u32 },

@@ -22,10 +22,12 @@ pub struct Waiting {
     pub bytes: Bytes,
 }
 
-/// What is to become of a block, by its number alone.
+/// What is to become of a block that arrives, by its number, and of bytes that spell none.
 #[derive(Clone, Copy, Debug, PartialEq, Eq)]
 pub enum Arrival {
-    /// Its number is held, or it is that of the next block: the chain decides.
+    /// Its number, this one, is held: it is known, or a fork.
+    Held { number: u32 },
+    /// It is the next block: the chain decides.
     Due,
     /// It waits for the blocks before it. This is its number.
     Early { number: u32 },
@@ -42,13 +44,13 @@ pub fn position_of(waiting: &[Waiting], number: u32) -> Option<usize>
 }
 
 /// What is to become of a block with this number, if `held` blocks are held and these wait. A block
-/// with a held number is due. Otherwise it is dropped if it is too far ahead, and then if one with
-/// its number waits; and what remains is early, or due as the next block.
+/// with a held number is known or a fork. Otherwise it is dropped if it is too far ahead, and then
+/// if one with its number waits; and what remains is early, or due as the next block.
 pub fn arrival_of(held: u32, waiting: &[Waiting], number: u32) -> Arrival
     ensures { result ≡ arrival_of held waiting.now number }
 {
     if number < held {
-        return Arrival::Due;
+        return Arrival::Held { number };
     }
     if number - held > MAX_AHEAD {
         return Arrival::Dropped(Cause::Far { held });

@@ -1,7 +1,7 @@
 -- A chain and the log of its blocks: what bytes on a disk stand for, and what a crash may leave of
 -- them.
-use Rattle.std.specs.Prelude.{◌≡◌, ◌⊎◌, ℕ, Bool, true, false, List, [], ◌∷◌, ◌++◌, length, Option}
-use Rattle.std.specs.Prelude.{Some, None, IfSome, Result, Ok, Err}
+use Rattle.std.specs.Prelude.{◌≡◌, ◌⊎◌, ℕ, ◌+◌, Bool, true, false, List, [], ◌∷◌, ◌++◌, length}
+use Rattle.std.specs.Prelude.{Option, Some, None, IfSome, Result, Ok, Err}
 use Rattle.std.specs.Option.{is_some}
 use Rattle.lc_io.specs.Disk.{DiskState}
 use Rattle.scratch_model.specs.Scratch.{ScratchState, is_known}
@@ -9,7 +9,7 @@ use Rattle.body_store.specs.Bodies.{BodiesState}
 use Rattle.rooted_chain.specs.merkle_dag.Lineage.{LineageState, AgreesWith}
 use Rattle.disk_model.specs.Disk.{Keeps, Rests, content_of}
 use Rattle.block_codec.specs.Reading.{block_in}
-use Rattle.block_codec.specs.Placement.{last_digest, FitsVersions}
+use Rattle.block_codec.specs.Placement.{bytes_digest, last_digest, FitsVersions}
 use Rattle.block_codec.specs.declared.block.Block.{Block}
 use Rattle.block_log.specs.Standing.{Standing, NotALog, Damaged, Placer, NextBlock, next_block}
 use Rattle.block_log.specs.Standing.{Logged, with_blocks, logged_of, chain_of}
@@ -230,6 +230,18 @@ Blames is_fault (Err back) = is_fault back.1 ≡ true
 abbrev pub HandsBack : {N M : Type 0} → Result N (Option M × AppendError) → Type 0
 HandsBack (Ok done) = Unit {0}
 HandsBack (Err back) = is_some back.0 ≡ is_refusal back.1
+
+-- The node that is returned, if there is one, whatever is known of its devices: the same one; or if
+-- a block was added, its number is that of the next one, and the node has the digest of these bytes
+-- after the others, and as many more rows as are reported.
+abbrev pub IsNodeAfter : NodeState → List ℕ
+    → Result (NodeState × Appended) (Option NodeState × AppendError) → Type 0
+IsNodeAfter old bytes (Ok (node, appendeds.Known number)) = node ≡ old
+IsNodeAfter old bytes (Ok (node, appendeds.Added number rows receipts root)) =
+    (number ≡ length old.chain.digests)
+    × (node.chain.digests ≡ old.chain.digests ++ bytes_digest bytes ∷ [])
+    × (length node.chain.rows ≡ length old.chain.rows + rows)
+IsNodeAfter old bytes (Err back) = IfSome back.0 (λ node. node ≡ old)
 
 -- This holds of the node that is returned, if there is one: with what became of the block, or with
 -- an error.

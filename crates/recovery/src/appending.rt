@@ -7,7 +7,23 @@ ghost use Rattle.disk_model.specs.{Disk.{Keeps, content_of}, Leaving.{LeavesWire
 ghost use Rattle.block_codec.specs.{Reading.{block_in}, declared.block.Block.{Block as Blocks}};
 ghost use Rattle.rooted_chain.specs.chain_replay.Chain.{StandsFor};
 ghost use Rattle.rooted_chain.specs.chain_replay.Judging.{Added, judgement_of, IfNext, IsJudged, IsNextBlock};
-ghost use Rattle.recovery.specs.Node.{IsNodeOf, IsReady, IsStepOf, logged_in, KeepsLog, IsAppendAnswer, append_error, Blames, HandsBack, IfNode, is_disk_fault, is_scratch_fault, reaches_disk, stored_placement};
+ghost use Rattle.recovery.specs.Node.{
+  IsNodeOf,
+  IsReady,
+  IsStepOf,
+  logged_in,
+  KeepsLog,
+  IsAppendAnswer,
+  IsNodeAfter,
+  append_error,
+  Blames,
+  HandsBack,
+  IfNode,
+  is_disk_fault,
+  is_scratch_fault,
+  reaches_disk,
+  stored_placement,
+};
 
 use crate::errors::AppendError;
 use crate::node::{Appended, Node};
@@ -73,6 +89,7 @@ impl Node {
             → Keeps M.now M.disk machine.old machine.new
             (IsStepOf (logged_in self.log blocks) (Ok (Added block.now))) }
         ensures log_images { KeepsLog M.now M.disk machine.old machine.new bytes.now }
+        ensures node { IsNodeAfter self bytes.now result }
         ensures ready { IfNode (λ node. IsReady node (M.disk machine.new (M.now machine.new))
             (S.state scratch.new)) result }
         ensures marked { IfNode (λ node. node.log.is_marked ≡ self.log.is_marked) result }
@@ -141,9 +158,11 @@ impl Node {
         // rows are not counted. Nothing else depends on the device than the rows, which can only
         // refuse a block.
         ensures log_images { KeepsLog M.now M.disk machine.old machine.new bytes.now }
-        // A node that is returned, with or without an error, is ready for the next block, and its
-        // log is marked exactly if it was; and it is returned with an error exactly if the bytes
-        // are refused.
+        // A node that is returned, with or without an error, is as it was; or if a block was added,
+        // its number is that of the next one, and the node has its digest after the others, and as
+        // many more rows as are reported. It is ready for the next block, and its log is marked
+        // exactly if it was; and it is returned with an error exactly if the bytes are refused.
+        ensures node { IsNodeAfter self bytes.now result }
         ensures ready { IfNode (λ node. IsReady node (M.disk machine.new (M.now machine.new))
             (S.state scratch.new)) result }
         ensures marked { IfNode (λ node. node.log.is_marked ≡ self.log.is_marked) result }

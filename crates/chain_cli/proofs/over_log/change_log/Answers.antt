@@ -3,7 +3,7 @@ use Rattle.scratch_model.specs.Scratch.{is_known}
 use Rattle.cli_words.specs.declared.words.Command.TheVariants.{Append, Follow, Upgrade}
 use Rattle.block_log.specs.Log.{next_in_log}
 use Rattle.cli_append.specs.recovery.Node.{next_in_chain}
-use Rattle.cli_output.specs.Telling.{append_answer, status_of_result, upgrade_answer}
+use Rattle.cli_output.specs.Telling.{run_answer, status_of_result, upgrade_answer}
 use Rattle.cli_output.proofs.Ends.{no_start_ends}
 use Rattle.chain_cli.proofs.Runs.{with_status}
 use Rattle.chain_cli.proofs.LogRuns.{append_run, follow_run, refused_run, upgrade_run}
@@ -15,10 +15,10 @@ use Rattle.chain_cli.proofs.over_log.change_log.Goals as goal
 pub returns-in-Append-clause-run : goal.returns-in-Append-clause-run
 returns-in-Append-clause-run g c =
     with_status g.M.Clock.now g.M.Clock.disk g.M.Clock.told c.args.machine.now c.append.new.machine
-    (status_of_result (append_answer c.append.result)) (status_of_result c.append_answer.result)
+    (status_of_result (run_answer c.append.result)) (status_of_result c.run_answer.result)
     (g.I.Source.left c.args.source.now) (g.I.Source.left c.append.new.source)
     (is_known (g.S.Scratch.state c.args.scratch.now)) (Some Append) (Some c.args.command.now)
-    (ap status_of_result (sym c.append_answer.ensures)) (ap Some c.in-Append.is)
+    (ap status_of_result (sym c.run_answer.ensures)) (ap Some c.in-Append.is)
     (append_run g.M.Clock.now g.M.Clock.disk g.M.Clock.told c.args.machine.now c.start.new.machine
     c.append.new.machine c.in-Ok.node c.append.result (g.I.Source.left c.args.source.now)
     (g.I.Source.left c.append.new.source) (is_known (g.S.Scratch.state c.args.scratch.now))
@@ -29,11 +29,11 @@ returns-in-Append-clause-run g c =
 pub returns-in-Follow-clause-run : goal.returns-in-Follow-clause-run
 returns-in-Follow-clause-run g c =
     with_status g.M.Clock.now g.M.Clock.disk g.M.Clock.told c.args.machine.now c.follow.new.machine
-    (status_of_result (append_answer c.follow.result))
-    (status_of_result c.append_answer-in-Follow.result)
+    (status_of_result (run_answer c.follow.result))
+    (status_of_result c.run_answer-in-Follow.result)
     (g.I.Source.left c.args.source.now) (g.I.Source.left c.follow.new.source)
     (is_known (g.S.Scratch.state c.args.scratch.now)) (Some Follow) (Some c.args.command.now)
-    (ap status_of_result (sym c.append_answer-in-Follow.ensures)) (ap Some c.in-Follow.is)
+    (ap status_of_result (sym c.run_answer-in-Follow.ensures)) (ap Some c.in-Follow.is)
     (follow_run g.M.Clock.now g.M.Clock.disk g.M.Clock.told c.args.machine.now c.start.new.machine
     c.follow.new.machine c.in-Ok.node c.follow.result (g.I.Source.left c.args.source.now)
     (g.I.Source.left c.follow.new.source) (is_known (g.S.Scratch.state c.args.scratch.now))
@@ -129,14 +129,14 @@ returns-in_default-clause-silent g c at_end =
     c.upgrade.ensures.silent_disk c.upgrade.ensures.silent_memory)
 
 pub returns-in-Append-clause-ends : goal.returns-in-Append-clause-ends
-returns-in-Append-clause-ends g c = of_given (status_of_result c.append_answer.result)
+returns-in-Append-clause-ends g c = of_given (status_of_result c.run_answer.result)
     c.args.command.now Append c.in-Append.is
-    (rw c.append_answer.ensures (answer_ends Append refl c.append.result))
+    (rw c.run_answer.ensures (answer_ends Append refl c.append.result))
 
 pub returns-in-Follow-clause-ends : goal.returns-in-Follow-clause-ends
-returns-in-Follow-clause-ends g c = of_given (status_of_result c.append_answer-in-Follow.result)
+returns-in-Follow-clause-ends g c = of_given (status_of_result c.run_answer-in-Follow.result)
     c.args.command.now Follow c.in-Follow.is
-    (rw c.append_answer-in-Follow.ensures (answer_ends Follow refl c.follow.result))
+    (rw c.run_answer-in-Follow.ensures (answer_ends Follow refl c.follow.result))
 
 pub returns-in_default-clause-ends : goal.returns-in_default-clause-ends
 returns-in_default-clause-ends g c = of_given (status_of_result c.upgrade_answer.result)
@@ -147,11 +147,11 @@ returns-in_default-clause-ends g c = of_given (status_of_result c.upgrade_answer
 
 pub returns-in-Append-clause-no_log : goal.returns-in-Append-clause-no_log
 returns-in-Append-clause-no_log g c none =
-    absurd (cc (rw c.append_answer.ensures at none, answer_has_log c.append.result))
+    absurd (cc (rw c.run_answer.ensures at none, answer_has_log c.append.result))
 
 pub returns-in-Follow-clause-no_log : goal.returns-in-Follow-clause-no_log
 returns-in-Follow-clause-no_log g c none =
-    absurd (cc (rw c.append_answer-in-Follow.ensures at none, answer_has_log c.follow.result))
+    absurd (cc (rw c.run_answer-in-Follow.ensures at none, answer_has_log c.follow.result))
 
 pub returns-in-Err-clause-ends : goal.returns-in-Err-clause-ends
 returns-in-Err-clause-ends g c =

@@ -1,12 +1,29 @@
-use Rattle.std.proofs.Common.{◌∙◌}
+use Rattle.std.proofs.Common.{sym, ◌∙◌}
+use Rattle.std.specs.Prelude.{Ok}
 use Rattle.recovery.specs.Node.{stored_placement}
 use Rattle.cli_append.specs.chain_exec.Compiled.{compiled_in}
 use Rattle.cli_follow.specs.Following.{after_frame, nothing_done}
-use Rattle.cli_follow.proofs.Makings.{delivers, stops_first, not_begun}
+use Rattle.cli_follow.proofs.Makings.{delivers, none_due, stops_first, not_begun}
 use Rattle.cli_follow.proofs.turning.deliver.Goals as goal
 
-pub returns-in-Ok-first_turn : goal.returns-in-Ok-first_turn
-returns-in-Ok-first_turn g c =
+pub returns-else-has_due : goal.returns-else-has_due
+returns-else-has_due g c =
+    delivers g.M.Clock.now g.M.Clock.disk g.M.Clock.told g.M.Clock.disk_faults
+    g.M.Clock.wire_faults g.S.Scratch.state g.S.Scratch.scratch_faults
+    (c.args.machine.now, c.args.scratch.now)
+    (c.first_turn.new.machine, c.first_turn.new.scratch)
+    (c.first_turn.new.machine, c.first_turn.new.scratch) c.args.follower
+    c.in-Ok-first_turn.next c.args.index c.from_vec-bytes.result c.args.frame.now
+    (Ok c.in-Ok-first_turn.next) (c.from_vec-bytes.ensures ∙ c.in-Ok.ensures.items)
+    c.in-Ok-first_turn.ensures
+    (none_due g.M.Clock.now g.M.Clock.disk g.M.Clock.told g.M.Clock.disk_faults
+    g.M.Clock.wire_faults g.S.Scratch.state g.S.Scratch.scratch_faults
+    (c.first_turn.new.machine, c.first_turn.new.scratch) c.in-Ok-first_turn.next
+    c.in-Ok-first_turn.ensures.ready
+    (sym c.has_due.ensures ∙ c.if-has_due.false))
+
+pub returns-then-has_due : goal.returns-then-has_due
+returns-then-has_due g c =
     delivers g.M.Clock.now g.M.Clock.disk g.M.Clock.told g.M.Clock.disk_faults
     g.M.Clock.wire_faults g.S.Scratch.state g.S.Scratch.scratch_faults
     (c.args.machine.now, c.args.scratch.now)

@@ -1,14 +1,26 @@
 use Rattle.std.specs.Prelude.{Some}
 use Rattle.block_codec.specs.Reading.{block_in}
 use Rattle.recovery.specs.Node.{stored_placement}
+use Rattle.cli_append.specs.chain_exec.Compiled.{compiled_in}
 use Rattle.cli_append.proofs.ByLog.{log_taken}
 use Rattle.follow_core.specs.follower_steps.Steps.{first_turn}
+use Rattle.cli_follow.specs.Following.{nothing_done, after_step}
+use Rattle.cli_follow.specs.Steps.{Makes}
 use Rattle.cli_follow.proofs.Done.{grown_first}
+use Rattle.cli_follow.proofs.Made.{told_by}
 use Rattle.cli_follow.proofs.Makings.{told_makes, fault_makes}
+use Rattle.cli_follow.proofs.turning.first_turn.Given.{Over}
 use Rattle.cli_follow.proofs.turning.first_turn.Goals as goal
+use Rattle.cli_follow.proofs.turning.first_turn.Goals.{After-tell_turn}
 
-pub returns-in-Ok : goal.returns-in-Ok
-returns-in-Ok g c =
+-- the turn was made, and its line printed, or its first bytes
+turn_made : (g : Over) (c : After-tell_turn g) → Makes g.M.Clock.now g.M.Clock.disk g.M.Clock.told
+    g.M.Clock.disk_faults g.M.Clock.wire_faults g.S.Scratch.state g.S.Scratch.scratch_faults
+    (c.args.machine.now, c.args.scratch.now) c.args.follower
+    (λ state. after_step compiled_in (nothing_done state)
+    (first_turn stored_placement state c.args.index c.args.bytes))
+    (c.tell_turn.new.machine, c.deliver.new.scratch) (told_by c.in-Ok.next c.tell_turn.result)
+turn_made g c =
     told_makes g.M.Clock.now g.M.Clock.disk g.M.Clock.told g.M.Clock.disk_faults
     g.M.Clock.wire_faults g.S.Scratch.state g.S.Scratch.scratch_faults c.args.machine.now
     c.deliver.new.machine c.args.scratch.now c.deliver.new.scratch c.args.follower
@@ -23,8 +35,16 @@ returns-in-Ok g c =
     c.in-Ok.ensures.untouched c.in-Ok.ensures.disk_cause (λ b. absurd (cc b))
     c.in-Ok.ensures.scratch (λ b. absurd (cc b)) c.tell_turn.ensures
 
-pub returns-in-Err : goal.returns-in-Err
-returns-in-Err g c =
+pub returns-in-Ok-tell_turn : goal.returns-in-Ok-tell_turn
+returns-in-Ok-tell_turn g c = rw c.in-Ok-tell_turn.is at
+    (turn_made g (goal.at.returns-in-Ok-tell_turn g c).After-tell_turn)
+
+pub returns-in-Ok : goal.returns-in-Ok
+returns-in-Ok g c = rw c.in-Err-tell_turn.is at
+    (turn_made g (goal.at.returns-in-Ok g c).After-tell_turn)
+
+pub returns : goal.returns
+returns g c =
     fault_makes g.M.Clock.now g.M.Clock.disk g.M.Clock.told g.M.Clock.disk_faults
     g.M.Clock.wire_faults g.S.Scratch.state g.S.Scratch.scratch_faults c.args.machine.now
     c.deliver.new.machine c.args.scratch.now c.deliver.new.scratch c.args.follower

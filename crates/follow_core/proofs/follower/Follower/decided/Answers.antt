@@ -1,6 +1,9 @@
-use Rattle.std.proofs.Common.{sym, subst, ◌∙◌}
+use Rattle.std.proofs.Common.{◌≡◌, length, false, sym, subst, ◌∙◌}
+use Rattle.std.specs.Prelude.{is_some}
+use Rattle.follower_steps.specs.Steps.{position_of}
 use Rattle.follow_core.specs.Follower.{FollowerState, IsFollowerOf}
-use Rattle.follow_core.proofs.Decisions.{decided_made, decided_images, node_made, waiting_made}
+use Rattle.follow_core.proofs.Decisions.{decided_made, decided_images, is_decided, node_made}
+use Rattle.follow_core.proofs.Decisions.{still_ahead, waiting_made}
 use Rattle.follow_core.proofs.Decisions.{reaches_made, disk_blamed, scratch_blamed}
 use Rattle.follow_core.proofs.follower.Follower.decided.Goals as goal
 
@@ -21,6 +24,19 @@ returns-clause-images g c told state content is shown =
     decided_images c.self.inside.node c.self.inside.waiting.items state c.args.index
     c.args.bytes.now g.M.Clock.now g.M.Clock.disk _ _ here.marked
     (c.append-answer.ensures.images told state.blocks content here.node shown)
+
+pub with_waiting-requires : goal.with_waiting-requires
+with_waiting-requires g c = rw c.node_turn.ensures
+    (still_ahead c.self.inside.node c.self.inside.waiting.items
+    (subst (λ (f : FollowerState). is_some (position_of (length f.node.chain.digests) f.waiting)
+    ≡ false) (sym c.self.view_is) c.requires.free)
+    c.self.invariant c.args.index c.args.bytes.now c.append-answer.result
+    c.append-answer.ensures.node)
+
+pub returns-clause-turn : goal.returns-clause-turn
+returns-clause-turn g c = rw (c.with_waiting.ensures, c.node_turn.ensures, ← c.self.view_is)
+    (is_decided c.args.index c.self.inside.waiting.items c.self.inside.node c.args.bytes.now
+    c.append-answer.result c.append-answer.ensures.node)
 
 pub returns-clause-ready : goal.returns-clause-ready
 returns-clause-ready g c = rw (c.with_waiting.ensures, c.node_turn.ensures)

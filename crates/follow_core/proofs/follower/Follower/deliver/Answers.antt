@@ -1,97 +1,154 @@
-use Rattle.std.proofs.Common.{◌≡◌, false, arith, length, refl, sym, ap, subst, ◌∙◌}
-use Rattle.std.specs.Prelude.{Ok, is_some}
+use Rattle.std.proofs.Common.{◌≡◌, true≢false, length, refl, sym, ap, ◌∙◌}
+use Rattle.std.specs.Prelude.{Ok}
 use Rattle.block_codec.specs.Reading.{block_in}
 use Rattle.scratch_model.proofs.Retaining.{retains_refl}
 use Rattle.recovery.specs.Node.{NodeState, IsReady, stored_placement}
 use Rattle.recovery.proofs.ByLog.{still_log}
 use Rattle.recovery.proofs.Nodes.{still_only}
-use Rattle.follower_steps.specs.declared.waiting.Arrival.TheVariants.{Due, Early, Dropped}
-use Rattle.follower_steps.specs.Steps.{first_turn, position_of}
-use Rattle.follower_steps.proofs.Nearby.{early_is}
+use Rattle.follower_steps.specs.declared.waiting.Arrival.TheVariants.{Held, Due, Early, Dropped}
+use Rattle.follower_steps.specs.Steps.{first_turn}
+use Rattle.follower_steps.proofs.Arrivals.{held_is}
+use Rattle.follower_steps.proofs.Nearby.{due_free}
 use Rattle.follow_core.specs.declared.turn.Turn.TheVariants as turns
-use Rattle.follow_core.specs.Follower.{FollowerState}
-use Rattle.follow_core.proofs.Delivered.{due_made, due_images, kept_made, dropped_made}
-use Rattle.follow_core.proofs.Delivered.{still_turn, waiting_is, arrival_told, kept_keeps, unblamed}
+use Rattle.follow_core.specs.Turning.{is_due}
+use Rattle.follow_core.proofs.Delivered.{arrival_told, due_made, due_images, dropped_made}
+use Rattle.follow_core.proofs.Delivered.{held_made, kept_made, kept_keeps, kept_turn, still_turn}
+use Rattle.follow_core.proofs.Delivered.{turn_is, waiting_is, unblamed}
 use Rattle.follow_core.proofs.follower.Follower.deliver.Goals as goal
 
+-- ---- a block whose number is held
+
+pub known_or_fork-turn-requires : goal.known_or_fork-turn-requires
+known_or_fork-turn-requires g c = record {
+  held = (held_is (length c.args.self.node.chain.digests) c.args.self.waiting
+      (block_in c.as_bytes.result.now) c.in-Ok-Held.number
+      (sym c.in-Ok-Held.ensures ∙ c.in-Ok-Held.field-0-is)).3;
+}
+
+pub returns-in-Ok-Held-clause-answer : goal.returns-in-Ok-Held-clause-answer
+returns-in-Ok-Held-clause-answer g c told state is =
+    let (have, got, turn_as) = c.known_or_fork-turn.ensures.turn in
+    held_made c.args.self _ state c.args.index c.in-Ok-Held.number c.args.bytes have
+    c.known_or_fork-turn.result
+    (rw c.as_bytes-in-Ok-Held.ensures at c.known_or_fork-turn.ensures.spelled) is
+    (arrival_told c.args.self c.as_bytes.result.now c.args.bytes
+    c.in-Ok-Held.field-0 (Held c.in-Ok-Held.number) c.as_bytes.ensures
+    c.in-Ok-Held.field-0-is c.in-Ok-Held.ensures)
+    got (rw c.as_bytes-in-Ok-Held.ensures at turn_as)
+
+pub returns-in-Ok-Held-clause-turn : goal.returns-in-Ok-Held-clause-turn
+returns-in-Ok-Held-clause-turn g c =
+    let (have, got, turn_as) = c.known_or_fork-turn.ensures.turn in
+    turn_is c.args.self c.args.index c.args.bytes (Held c.in-Ok-Held.number)
+    (Ok (c.args.self, c.known_or_fork-turn.result))
+    (arrival_told c.args.self c.as_bytes.result.now c.args.bytes
+    c.in-Ok-Held.field-0 (Held c.in-Ok-Held.number) c.as_bytes.ensures
+    c.in-Ok-Held.field-0-is c.in-Ok-Held.ensures)
+    (refl, (have, got, rw c.as_bytes-in-Ok-Held.ensures at turn_as))
+
+pub returns-in-Ok-Held-clause-waiting : goal.returns-in-Ok-Held-clause-waiting
+returns-in-Ok-Held-clause-waiting g c = waiting_is c.args.self c.args.index c.args.bytes
+    (Held c.in-Ok-Held.number) (Ok (c.args.self, c.known_or_fork-turn.result))
+    (arrival_told c.args.self c.as_bytes.result.now c.args.bytes
+    c.in-Ok-Held.field-0 (Held c.in-Ok-Held.number) c.as_bytes.ensures
+    c.in-Ok-Held.field-0-is c.in-Ok-Held.ensures)
+    refl
+
+pub returns-in-Ok-Held-clause-images : goal.returns-in-Ok-Held-clause-images
+returns-in-Ok-Held-clause-images g c told state content is shown = still_turn g.M.Clock.now
+    g.M.Clock.disk c.args.machine.now c.args.self state
+    (first_turn stored_placement state c.args.index c.args.bytes).state content is shown
+
+pub returns-in-Ok-Held-clause-log_images : goal.returns-in-Ok-Held-clause-log_images
+returns-in-Ok-Held-clause-log_images g c logged content told stands = still_log g.M.Clock.now
+    g.M.Clock.disk c.args.machine.now c.args.self.node.log content logged (block_in c.args.bytes)
+    c.requires.ready.log told stands
+
+pub returns-in-Ok-Held-clause-only_image : goal.returns-in-Ok-Held-clause-only_image
+returns-in-Ok-Held-clause-only_image g c unreached content shown = still_only g.M.Clock.now
+    g.M.Clock.disk c.args.machine.now c.args.machine.now c.args.self.node.log refl
+    c.requires.ready.log content shown
+
 -- ---- a block that is due
+
+pub decided-requires-clause-free : goal.decided-requires-clause-free
+decided-requires-clause-free g c = due_free (length c.args.self.node.chain.digests)
+    c.args.self.waiting c.as_bytes.result.now
+    (sym c.in-Ok-Due.ensures ∙ c.in-Ok-Due.field-0-is)
 
 pub returns-in-Ok-Due-clause-answer : goal.returns-in-Ok-Due-clause-answer
 returns-in-Ok-Due-clause-answer g c told state is = due_made c.args.self
     (g.M.Clock.disk c.args.machine.now (g.M.Clock.now c.args.machine.now)) _ state c.args.index
     c.args.bytes c.decided.result is
-    (arrival_told c.args.self c.blocks-held.result c.as_slice.result.now
-    c.as_bytes.result.now c.args.bytes Due
-    (c.blocks-held.ensures
-    ∙ ap (λ (f : FollowerState). length f.node.chain.digests) c.self.view_is)
-    (c.as_slice.ensures.value ∙ ap (λ (f : FollowerState). f.waiting) c.self.view_is)
-    c.as_bytes.ensures (sym c.in-Ok-Due.field-0-is ∙ c.in-Ok-Due.ensures))
+    (arrival_told c.args.self c.as_bytes.result.now c.args.bytes
+    c.in-Ok-Due.field-0 Due c.as_bytes.ensures c.in-Ok-Due.field-0-is c.in-Ok-Due.ensures)
     (rw c.as_bytes-in-Ok-Due.ensures at (c.decided.ensures.answer told state is))
 
 pub returns-in-Ok-Due-clause-images : goal.returns-in-Ok-Due-clause-images
 returns-in-Ok-Due-clause-images g c told state content is shown = due_images g.M.Clock.now
     g.M.Clock.disk c.args.machine.now c.decided.new.machine c.args.self state c.args.index
     c.args.bytes is
-    (arrival_told c.args.self c.blocks-held.result c.as_slice.result.now
-    c.as_bytes.result.now c.args.bytes Due
-    (c.blocks-held.ensures
-    ∙ ap (λ (f : FollowerState). length f.node.chain.digests) c.self.view_is)
-    (c.as_slice.ensures.value ∙ ap (λ (f : FollowerState). f.waiting) c.self.view_is)
-    c.as_bytes.ensures (sym c.in-Ok-Due.field-0-is ∙ c.in-Ok-Due.ensures))
+    (arrival_told c.args.self c.as_bytes.result.now c.args.bytes
+    c.in-Ok-Due.field-0 Due c.as_bytes.ensures c.in-Ok-Due.field-0-is c.in-Ok-Due.ensures)
     (rw c.as_bytes-in-Ok-Due.ensures at (c.decided.ensures.images told state content is shown))
 
 pub returns-in-Ok-Due-clause-log_images : goal.returns-in-Ok-Due-clause-log_images
 returns-in-Ok-Due-clause-log_images g c =
     rw c.as_bytes-in-Ok-Due.ensures at c.decided.ensures.log_images
 
+pub returns-in-Ok-Due-clause-turn : goal.returns-in-Ok-Due-clause-turn
+returns-in-Ok-Due-clause-turn g c = turn_is c.args.self c.args.index c.args.bytes Due
+    c.decided.result
+    (arrival_told c.args.self c.as_bytes.result.now c.args.bytes
+    c.in-Ok-Due.field-0 Due c.as_bytes.ensures c.in-Ok-Due.field-0-is c.in-Ok-Due.ensures)
+    (rw c.as_bytes-in-Ok-Due.ensures at c.decided.ensures.turn)
+
 pub returns-in-Ok-Due-clause-waiting : goal.returns-in-Ok-Due-clause-waiting
 returns-in-Ok-Due-clause-waiting g c = waiting_is c.args.self c.args.index c.args.bytes Due
     c.decided.result
-    (arrival_told c.args.self c.blocks-held.result c.as_slice.result.now
-    c.as_bytes.result.now c.args.bytes Due
-    (c.blocks-held.ensures
-    ∙ ap (λ (f : FollowerState). length f.node.chain.digests) c.self.view_is)
-    (c.as_slice.ensures.value ∙ ap (λ (f : FollowerState). f.waiting) c.self.view_is)
-    c.as_bytes.ensures (sym c.in-Ok-Due.field-0-is ∙ c.in-Ok-Due.ensures))
+    (arrival_told c.args.self c.as_bytes.result.now c.args.bytes
+    c.in-Ok-Due.field-0 Due c.as_bytes.ensures c.in-Ok-Due.field-0-is c.in-Ok-Due.ensures)
     c.decided.ensures.waiting
+
+pub returns-in-Ok-Due-clause-unused : goal.returns-in-Ok-Due-clause-unused
+returns-in-Ok-Due-clause-unused g c other = absurd (true≢false
+    (ap is_due
+    (arrival_told c.args.self c.as_bytes.result.now c.args.bytes
+    c.in-Ok-Due.field-0 Due c.as_bytes.ensures c.in-Ok-Due.field-0-is c.in-Ok-Due.ensures)
+    ∙ other))
 
 -- ---- an early block
 
-pub kept-requires-clause-later : goal.kept-requires-clause-later
-kept-requires-clause-later g c =
-    let early = early_is c.blocks-held.result c.as_slice.result.now
-    (block_in c.as_bytes.result.now) c.in-Ok-Early.number
-    (sym c.in-Ok-Early.ensures ∙ c.in-Ok-Early.field-0-is) in
-    omega (arith, early.later)
-
-pub kept-requires-clause-free : goal.kept-requires-clause-free
-kept-requires-clause-free g c =
-    let early = early_is c.blocks-held.result c.as_slice.result.now
-    (block_in c.as_bytes.result.now) c.in-Ok-Early.number
-    (sym c.in-Ok-Early.ensures ∙ c.in-Ok-Early.field-0-is) in
-    subst (λ (f : FollowerState). is_some (position_of c.in-Ok-Early.number f.waiting) ≡ false)
-    c.self.view_is (rw c.as_slice.ensures.value at early.free)
+pub kept-requires : goal.kept-requires
+kept-requires g c = record {
+  early = sym (arrival_told c.args.self c.as_bytes.result.now c.args.bytes
+      c.in-Ok-Early.field-0 (Early c.in-Ok-Early.number) c.as_bytes.ensures
+      c.in-Ok-Early.field-0-is c.in-Ok-Early.ensures);
+}
 
 pub returns-in-Ok-Early-clause-answer : goal.returns-in-Ok-Early-clause-answer
 returns-in-Ok-Early-clause-answer g c told state is = kept_made c.args.self _ state c.args.index
     c.in-Ok-Early.number c.args.bytes c.kept.result is
-    (arrival_told c.args.self c.blocks-held.result c.as_slice.result.now
-    c.as_bytes.result.now c.args.bytes (Early c.in-Ok-Early.number)
-    (c.blocks-held.ensures
-    ∙ ap (λ (f : FollowerState). length f.node.chain.digests) c.self.view_is)
-    (c.as_slice.ensures.value ∙ ap (λ (f : FollowerState). f.waiting) c.self.view_is)
-    c.as_bytes.ensures (sym c.in-Ok-Early.field-0-is ∙ c.in-Ok-Early.ensures))
+    (arrival_told c.args.self c.as_bytes.result.now c.args.bytes
+    c.in-Ok-Early.field-0 (Early c.in-Ok-Early.number) c.as_bytes.ensures
+    c.in-Ok-Early.field-0-is c.in-Ok-Early.ensures)
     c.kept.ensures.node c.kept.ensures.waiting c.kept.ensures.turn
+
+pub returns-in-Ok-Early-clause-turn : goal.returns-in-Ok-Early-clause-turn
+returns-in-Ok-Early-clause-turn g c = turn_is c.args.self c.args.index c.args.bytes
+    (Early c.in-Ok-Early.number) c.kept.result
+    (arrival_told c.args.self c.as_bytes.result.now c.args.bytes
+    c.in-Ok-Early.field-0 (Early c.in-Ok-Early.number) c.as_bytes.ensures
+    c.in-Ok-Early.field-0-is c.in-Ok-Early.ensures)
+    (kept_turn c.args.self c.args.index c.in-Ok-Early.number c.args.bytes c.kept.result
+    c.kept.ensures.node c.kept.ensures.turn)
 
 pub returns-in-Ok-Early-clause-waiting : goal.returns-in-Ok-Early-clause-waiting
 returns-in-Ok-Early-clause-waiting g c = waiting_is c.args.self c.args.index c.args.bytes
     (Early c.in-Ok-Early.number) c.kept.result
-    (arrival_told c.args.self c.blocks-held.result c.as_slice.result.now
-    c.as_bytes.result.now c.args.bytes (Early c.in-Ok-Early.number)
-    (c.blocks-held.ensures
-    ∙ ap (λ (f : FollowerState). length f.node.chain.digests) c.self.view_is)
-    (c.as_slice.ensures.value ∙ ap (λ (f : FollowerState). f.waiting) c.self.view_is)
-    c.as_bytes.ensures (sym c.in-Ok-Early.field-0-is ∙ c.in-Ok-Early.ensures))
+    (arrival_told c.args.self c.as_bytes.result.now c.args.bytes
+    c.in-Ok-Early.field-0 (Early c.in-Ok-Early.number) c.as_bytes.ensures
+    c.in-Ok-Early.field-0-is c.in-Ok-Early.ensures)
     c.kept.ensures.waiting
 
 pub returns-in-Ok-Early-clause-ready : goal.returns-in-Ok-Early-clause-ready
@@ -135,23 +192,26 @@ returns-in-Ok-Early-clause-only_image g c unreached content shown = still_only g
 pub returns-in-Ok-Dropped-clause-answer : goal.returns-in-Ok-Dropped-clause-answer
 returns-in-Ok-Dropped-clause-answer g c told state is = dropped_made c.args.self _ state
     c.args.index c.args.bytes c.in-Ok-Dropped.cause is
-    (arrival_told c.args.self c.blocks-held.result c.as_slice.result.now
-    c.as_bytes.result.now c.args.bytes (Dropped c.in-Ok-Dropped.cause)
-    (c.blocks-held.ensures
-    ∙ ap (λ (f : FollowerState). length f.node.chain.digests) c.self.view_is)
-    (c.as_slice.ensures.value ∙ ap (λ (f : FollowerState). f.waiting) c.self.view_is)
-    c.as_bytes.ensures (sym c.in-Ok-Dropped.field-0-is ∙ c.in-Ok-Dropped.ensures))
+    (arrival_told c.args.self c.as_bytes.result.now c.args.bytes
+    c.in-Ok-Dropped.field-0 (Dropped c.in-Ok-Dropped.cause) c.as_bytes.ensures
+    c.in-Ok-Dropped.field-0-is c.in-Ok-Dropped.ensures)
+
+pub returns-in-Ok-Dropped-clause-turn : goal.returns-in-Ok-Dropped-clause-turn
+returns-in-Ok-Dropped-clause-turn g c = turn_is c.args.self c.args.index c.args.bytes
+    (Dropped c.in-Ok-Dropped.cause)
+    (Ok (c.args.self, turns.Dropped c.args.index c.in-Ok-Dropped.cause))
+    (arrival_told c.args.self c.as_bytes.result.now c.args.bytes
+    c.in-Ok-Dropped.field-0 (Dropped c.in-Ok-Dropped.cause) c.as_bytes.ensures
+    c.in-Ok-Dropped.field-0-is c.in-Ok-Dropped.ensures)
+    (refl, refl)
 
 pub returns-in-Ok-Dropped-clause-waiting : goal.returns-in-Ok-Dropped-clause-waiting
 returns-in-Ok-Dropped-clause-waiting g c = waiting_is c.args.self c.args.index c.args.bytes
     (Dropped c.in-Ok-Dropped.cause)
     (Ok (c.args.self, turns.Dropped c.args.index c.in-Ok-Dropped.cause))
-    (arrival_told c.args.self c.blocks-held.result c.as_slice.result.now
-    c.as_bytes.result.now c.args.bytes (Dropped c.in-Ok-Dropped.cause)
-    (c.blocks-held.ensures
-    ∙ ap (λ (f : FollowerState). length f.node.chain.digests) c.self.view_is)
-    (c.as_slice.ensures.value ∙ ap (λ (f : FollowerState). f.waiting) c.self.view_is)
-    c.as_bytes.ensures (sym c.in-Ok-Dropped.field-0-is ∙ c.in-Ok-Dropped.ensures))
+    (arrival_told c.args.self c.as_bytes.result.now c.args.bytes
+    c.in-Ok-Dropped.field-0 (Dropped c.in-Ok-Dropped.cause) c.as_bytes.ensures
+    c.in-Ok-Dropped.field-0-is c.in-Ok-Dropped.ensures)
     refl
 
 pub returns-in-Ok-Dropped-clause-images : goal.returns-in-Ok-Dropped-clause-images

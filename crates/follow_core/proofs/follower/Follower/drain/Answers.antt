@@ -1,15 +1,16 @@
-use Rattle.std.proofs.Common.{◌≡◌, refl, sym, ap, ◌∙◌, arith}
+use Rattle.std.proofs.Common.{◌≡◌, length, refl, sym, ap, ◌∙◌, arith}
 use Rattle.recovery.specs.Node.{IsReady, stored_placement}
 use Rattle.recovery.proofs.Nodes.{still_only}
 use Rattle.follower_steps.specs.Steps.{further_turn, position_of, without}
 use Rattle.follower_steps.specs.Events.{state_after}
+use Rattle.follower_steps.proofs.Nearby.{ahead_without}
 use Rattle.follow_core.specs.Follower.{FollowerState}
-use Rattle.follow_core.proofs.Counted.{one_fewer_own}
 use Rattle.follow_core.proofs.Delivered.{still_turn}
-use Rattle.follow_core.proofs.Drained.{IsTakenOut, with_parts, found_within, none_there, taken_out}
-use Rattle.follow_core.proofs.Drained.{none_made, none_log, none_waiting, none_any, if_made}
-use Rattle.follow_core.proofs.Drained.{some_made, rest_of, one_made, one_images, one_log}
-use Rattle.follow_core.proofs.Drained.{one_waiting, reaches_any, cause_any, serves_any}
+use Rattle.follow_core.proofs.Drained.{IsTakenOut, with_parts, found_within, none_there}
+use Rattle.follow_core.proofs.Drained.{taken_out, none_made, none_log, none_waiting, none_turn}
+use Rattle.follow_core.proofs.Drained.{none_any, if_made, some_made, rest_free, rest_of, one_made}
+use Rattle.follow_core.proofs.Drained.{one_images, one_log, one_turn, one_waiting, reaches_any}
+use Rattle.follow_core.proofs.Drained.{cause_any, serves_any}
 use Rattle.follow_core.proofs.follower.Follower.drain.Given.{Over}
 use Rattle.follow_core.proofs.follower.Follower.drain.Goals as goal
 use Rattle.follow_core.proofs.follower.Follower.drain.Goals.{After-drop-block}
@@ -35,6 +36,12 @@ returns-in-None-clause-log_images g c = none_log c.args.self
 
 pub returns-in-None-clause-waiting : goal.returns-in-None-clause-waiting
 returns-in-None-clause-waiting g c = none_waiting c.args.self
+    (none_there c.args.self c.self.inside.node c.self.inside.waiting.items c.as_slice.result.now
+    c.blocks-held.result c.self.view_is c.blocks-held.ensures c.as_slice.ensures.value
+    c.in-None.ensures)
+
+pub returns-in-None-clause-turn : goal.returns-in-None-clause-turn
+returns-in-None-clause-turn g c = none_turn c.args.self
     (none_there c.args.self c.self.inside.node c.self.inside.waiting.items c.as_slice.result.now
     c.blocks-held.result c.self.view_is c.blocks-held.ensures c.as_slice.ensures.value
     c.in-None.ensures)
@@ -66,9 +73,15 @@ pub invariant_of-rest : goal.invariant_of-rest
 invariant_of-rest g c =
     let found = sym (c.in-Some.ensures
     ∙ ap (position_of c.blocks-held.result) c.as_slice.ensures.value) in
-    rw c.remove-block.ensures.items (one_fewer_own c.self.inside.waiting.items c.in-Some.at
-    (found_within c.blocks-held.result c.self.inside.waiting.items c.in-Some.at found)
-    c.self.invariant)
+    rw c.remove-block.ensures.items (ahead_without (length c.self.inside.node.chain.digests)
+    c.self.inside.waiting.items c.self.invariant c.in-Some.at
+    (found_within c.blocks-held.result c.self.inside.waiting.items c.in-Some.at found))
+
+pub decided-requires-clause-free : goal.decided-requires-clause-free
+decided-requires-clause-free g c = rest_free c.args.self c.self.inside.node
+    c.self.inside.waiting.items c.as_slice.result.now c.blocks-held.result c.self.view_is
+    c.blocks-held.ensures c.as_slice.ensures.value c.remove-block.new.self.items c.in-Some.at
+    c.self.invariant c.in-Some.ensures c.remove-block.ensures.items
 
 -- the block at the index that was found, and what is left without it
 taken : (g : Over) (c : After-drop-block g) → IsTakenOut c.args.self
@@ -124,6 +137,15 @@ returns-in-Some-clause-waiting g c = rw c.made.ensures
     (one_waiting c.args.self (with_parts c.self.inside.node c.remove-block.new.self.items)
     c.in-Some.at c.remove-block.result (taken g c) c.as_bytes-bytes.result.now
     c.as_bytes-bytes.ensures c.decided.result c.decided.ensures.waiting)
+
+pub returns-in-Some-clause-none : goal.returns-in-Some-clause-none
+returns-in-Some-clause-none g c none = absurd (cc ((taken g c).there, none))
+
+pub returns-in-Some-clause-turn : goal.returns-in-Some-clause-turn
+returns-in-Some-clause-turn g c = rw c.made.ensures
+    (one_turn c.args.self (with_parts c.self.inside.node c.remove-block.new.self.items)
+    c.in-Some.at c.remove-block.result (taken g c) c.as_bytes-bytes.result.now
+    c.as_bytes-bytes.ensures c.decided.result c.decided.ensures.turn)
 
 pub returns-in-Some-clause-any : goal.returns-in-Some-clause-any
 returns-in-Some-clause-any g c = rw c.made.ensures

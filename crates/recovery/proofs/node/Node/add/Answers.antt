@@ -2,6 +2,7 @@ use Rattle.std.proofs.Common.{◌≡◌, true, List, [], ◌∷◌, ◌++◌, le
 use Rattle.std.proofs.Common.{true≢false}
 use Rattle.std.proofs.Common.{arith}
 use Rattle.std.proofs.lemmas.List.{length-append}
+use Rattle.lc_base.specs.declared.digest.Digest.{Digest}
 use Rattle.lc_base.specs.declared.row.Row.{Row}
 use Rattle.scratch_model.specs.Scratch.{is_known}
 use Rattle.block_codec.specs.Reading.{block_in}
@@ -42,6 +43,24 @@ store-requires-clause-next g c =
 pub store-requires-clause-digest : goal.store-requires-clause-digest
 store-requires-clause-digest g c = hashed c.args.self.log.is_marked c.args.self.chain
     c.args.bytes.now c.args.block.now c.args.digest (λ i. omega (arith, c.type_inv.bytes i)) c.requires.next
+
+pub returns-in-Ok-store-clause-node : goal.returns-in-Ok-store-clause-node
+returns-in-Ok-store-clause-node g c =
+    let here = ap (λ (n : NodeState). n.chain.digests) c.self.view_is in (
+      c.requires.next.room.number,
+      c.in-Ok.ensures.digests
+          ∙ ap (λ (ds : List Digest). ds ++ c.args.digest ∷ []) here
+          ∙ ap (λ (d : Digest). c.args.self.chain.digests ++ d ∷ [])
+          (hashed c.args.self.log.is_marked c.args.self.chain c.args.bytes.now c.args.block.now
+          c.args.digest (λ i. omega (arith, c.type_inv.bytes i)) c.requires.next),
+      omega (
+        arith,
+        c.len.ensures,
+        ap (length {A = Row}) c.in-Ok.ensures.rows,
+        length-append c.self.inside.chain.rows c.in-Ok.done.1.rows,
+        ap (λ (n : NodeState). length n.chain.rows) c.self.view_is,
+      ),
+    )
 
 pub overflow_cast-added : goal.overflow_cast-added
 overflow_cast-added g c =
