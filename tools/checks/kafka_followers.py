@@ -1,8 +1,9 @@
 """A leader and some followers of it, over frames in the partitions of a topic, for tools/checks/try-kafka.
 
 The topic has each block of the leader's chain once or twice, in a partition that is drawn. A follower reads all of it
-again and again, in whatever order it comes, and is killed after some of its lines, or left to its end. After each run
-it has each block of which it told; and its root at its last block is the leader's there. In the end all roots agree.
+again and again, in whatever order it comes, and is killed after some of its lines, or left to its end; and once what
+it reads ends within a frame, where the topic can be cut. After each run it has each block of which it told; and its
+root at its last block is the leader's there. In the end all roots agree.
 """
 import contextlib
 import os
@@ -14,14 +15,14 @@ import tempfile
 import threading
 
 from cases.block_files import block_file, sets
-from cases.log_cases import DONE, frames_of, log_of
+from cases.log_cases import DONE, REFUSED, frames_of, log_of
 from checks import log_runs
 
 SEED = 6
 FOLLOWERS = 3
 PARTITIONS = 3
 BLOCKS = 150
-# A follower must be at the end after so many runs, of which the first ones are killed.
+# A follower must be at the end after so many runs, of which the first ones are killed, and the next one is cut.
 RUNS, KILLED = 12, 6
 TOPIC = "frames"
 LIMIT = 60
@@ -46,8 +47,10 @@ class Stored:
     """Stands in for a broker and for kcat: gives the messages of all partitions, each in its order, and these among
     each other in any."""
 
+    can_be_cut = True
+
     def __init__(self, partitions, draws):
-        self.partitions, self.draws = partitions, draws
+        self.partitions, self.draws, self.whole = partitions, draws, 0
 
     def frames(self):
         rest = [list(partition) for partition in self.partitions]
@@ -59,10 +62,15 @@ class Stored:
             del partition[:ahead]
 
     @contextlib.contextmanager
-    def source(self):
-        """A descriptor that a program reads the messages from."""
+    def source(self, is_cut):
+        """A descriptor that a program reads the messages from: all of them, or some and then a part of one. How many
+        are whole is kept."""
         reading, writing = os.pipe()
         frames = list(self.frames())
+        self.whole = self.draws.randrange(len(frames)) if is_cut else len(frames)
+        if is_cut:
+            part = frames[self.whole]
+            frames = [*frames[: self.whole], part[: self.draws.randrange(1, len(part))]]
         writer = threading.Thread(target=write_all, args=(writing, frames))
         writer.start()
         try:
@@ -84,6 +92,8 @@ def write_all(file, frames):
 class Served:
     """The topic of a broker, which kcat reads."""
 
+    can_be_cut = False
+
     def __init__(self, address, partitions, folder):
         self.address = address
         for at, partition in enumerate(partitions):
@@ -96,7 +106,7 @@ class Served:
             subprocess.run([*words, *paths], check=True, timeout=LIMIT)
 
     @contextlib.contextmanager
-    def source(self):
+    def source(self, _):
         """What kcat prints of all partitions, by the command of docs/follow.md."""
         words = f"kcat -C -b {self.address} -t {TOPIC} -o beginning -e -q -f %R%s".split()
         with subprocess.Popen(words, stdout=subprocess.PIPE, stderr=subprocess.DEVNULL) as reader:
@@ -112,10 +122,10 @@ class OneFollower:
     def __init__(self, program, topic, folder):
         self.program, self.topic, self.folder, self.sure = program, topic, folder, 0
 
-    def run(self, lines):
-        """Delivers what the topic has, and kills the program after so many lines, if any number is given: its lines,
-        and its status."""
-        with self.topic.source() as source:
+    def run(self, lines, is_cut):
+        """Delivers what the topic has, or a part of it, and kills the program after so many lines, if any number is
+        given: its lines, and its status."""
+        with self.topic.source(is_cut) as source:
             process = log_runs.start_storing(self.program, self.folder, source, "follow")
             told = "".join(log_runs.read_line(process) for _ in range(lines or 0))
             if lines is not None:
@@ -140,18 +150,20 @@ def follow_all(checks, program, topic, name, roots, log):
             follower, runs = OneFollower(program, topic, folder), 0
             while follower.root() != roots[-1] and runs < RUNS:
                 lines = draws.randrange(BLOCKS) if runs < KILLED else None
-                told, status = follower.run(lines)
+                is_cut = runs == KILLED and topic.can_be_cut
+                told, status = follower.run(lines, is_cut)
                 runs += 1
                 what = f"follower {number} over {name}, run {runs}"
                 is_killed = lines is not None and status == -signal.SIGKILL
-                checks.holds(f"{what}: status {status}", is_killed or status == DONE)
+                checks.holds(f"{what}: status {status}", is_killed or status == (REFUSED if is_cut else DONE))
                 held = len(log_runs.held_frames(log_runs.read_log(folder)))
                 checks.holds(f"{what}: {held} blocks, of which {follower.sure} were told of", held >= follower.sure)
                 if held:
                     checks.same(f"{what}: root", follower.root(), roots[held - 1])
                 if lines is None:
-                    waiting = told.splitlines()[-1]
-                    checks.holds(f"{what}: last line {waiting}", waiting.startswith(f"follow blocks {held} "))
+                    last = told.splitlines()[-1]
+                    end = f"refused frame {topic.whole} truncated" if is_cut else f"follow blocks {held} waiting "
+                    checks.holds(f"{what}: last line {last}", last.startswith(end))
             checks.same(f"follower {number} over {name}, in the end", follower.root(), roots[-1])
             checks.same(f"log of follower {number} over {name}", log_runs.read_log(folder), log)
 
