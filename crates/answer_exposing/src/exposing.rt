@@ -23,7 +23,7 @@ use std::alloc::Global;
 use text_clashes::{ClashSearch, ProofView, proof_texts};
 
 /// Two texts that differ and have one digest.
-#[derive(Debug, Drop)]
+#[derive(Drop)]
 pub struct Clash {
     /// A text that the proof shows.
     pub proof_text: Bytes,

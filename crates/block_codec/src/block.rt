@@ -24,7 +24,7 @@ pub const DEPLOY: u8 = 2;
 pub const CALL: u8 = 3;
 
 /// A transaction.
-#[derive(Debug, Drop)]
+#[derive(Drop)]
 pub enum Tx {
     /// Writes a value to a key, derived from the newest versions of the keys in `deps`.
     Set {
@@ -57,7 +57,7 @@ pub enum Tx {
 pub type TxList = Seq<Tx>;
 
 /// A block.
-#[derive(Debug, Drop)]
+#[derive(Drop)]
 pub struct Block {
     /// `FIRST_VERSION` or `SECOND_VERSION`.
     pub version: u8,

@@ -16,7 +16,7 @@ use lc_base::{Digest, KeyList, MAX_DEPS, Seq, Value};
 use std::alloc::Global;
 
 /// Why bytes were not read as a block.
-#[derive(Clone, Copy, Debug, PartialEq, Eq)]
+#[derive(Clone, Copy)]
 pub enum DecodeError {
     /// They spell no block.
     Malformed {

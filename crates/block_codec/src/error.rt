@@ -6,7 +6,7 @@ use lc_base::Memory;
 use lc_io::Failed;
 
 /// Why a block was not written.
-#[derive(Clone, Copy, Debug, PartialEq, Eq)]
+#[derive(Clone, Copy)]
 pub enum EncodeError {
     /// It has no spelling: it has another version than `FIRST_VERSION` and `SECOND_VERSION`, more
     /// than `MAX_TXS` transactions or `MAX_BLOCK_BYTES` bytes, or a transaction has a value or an
@@ -19,7 +19,7 @@ pub enum EncodeError {
 }
 
 /// Why the next frame was not taken.
-#[derive(Clone, Copy, Debug, PartialEq, Eq)]
+#[derive(Clone, Copy)]
 pub enum FrameError {
     /// The input ends within the frame.
     Truncated,

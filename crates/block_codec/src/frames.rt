@@ -15,7 +15,7 @@ use std::alloc::Global;
 use std::marker::Model;
 
 /// Takes the frames of one input, in order.
-#[derive(Debug, Drop)]
+#[derive(Drop)]
 pub struct Frames {
     taken: u32,
 }

@@ -18,7 +18,7 @@ pub const BLOCK_TAG: u8 = 0x07;
 pub const NO_PARENT: Digest = Digest([0; 32]);
 
 /// The place of a block relative to a chain.
-#[derive(Clone, Copy, Debug, PartialEq, Eq)]
+#[derive(Clone, Copy, PartialEq, Eq)]
 pub enum Placement {
     /// The chain holds this block.
     Known,
@@ -29,7 +29,7 @@ pub enum Placement {
 }
 
 /// Why a block is neither held by a chain nor its next one, with what a sender needs to mend it.
-#[derive(Clone, Copy, Debug, PartialEq, Eq)]
+#[derive(Clone, Copy, PartialEq, Eq)]
 pub enum Misplaced {
     /// The chain holds another block with its number, of the digest `have`.
     Fork { have: Digest },

@@ -6,7 +6,7 @@ use lc_base::{HostError, Memory};
 use lc_io::Failed;
 
 /// Why a log could not be opened or read.
-#[derive(Clone, Copy, Debug, PartialEq, Eq)]
+#[derive(Clone, Copy)]
 pub enum LogError {
     /// The disk holds something other than a log.
     NotALog,
@@ -53,7 +53,7 @@ impl From<Memory> for LogError {
 }
 
 /// A call of the disk failed.
-#[derive(Clone, Copy, Debug, PartialEq, Eq)]
+#[derive(Clone, Copy)]
 pub struct DiskFault;
 
 impl From<Failed> for DiskFault {

@@ -23,7 +23,7 @@ pub const MAX_RECORD_BYTES: usize = MAX_BLOCK_BYTES + 5;
 pub const MAX_RECORDS: u64 = MAX_MARKED_BLOCKS as u64 + 1;
 
 /// A block of the log.
-#[derive(Debug, Drop)]
+#[derive(Drop)]
 pub struct Stored {
     /// The offset of the gate of its record.
     pub place: u64,

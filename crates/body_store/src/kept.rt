@@ -8,7 +8,7 @@ use std::rc::RcSlice;
 use std::snapshot::Snapshot;
 
 /// The index of a body in the order in which they were pushed, from 0.
-#[derive(Clone, Copy, Debug, PartialEq, Eq, Hash)]
+#[derive(Clone, Copy, PartialEq, Eq, Hash)]
 pub(crate) struct BodyIndex(pub u32);
 
 /// The bytes of a body as contracts see them. They take no memory: the bytes are on the scratch

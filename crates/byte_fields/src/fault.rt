@@ -7,14 +7,14 @@ use lc_base::Memory;
 use std::alloc::{AllocError, AllocFailed};
 
 /// A field is cut short or breaks its rule.
-#[derive(Clone, Copy, Debug, PartialEq, Eq)]
+#[derive(Clone, Copy)]
 pub struct Fault {
     /// The number of bytes from the start of the invalid field to the end.
     pub left: usize,
 }
 
 /// Why a field was not read into memory.
-#[derive(Clone, Copy, Debug, PartialEq, Eq)]
+#[derive(Clone, Copy)]
 pub enum ReadError {
     /// The field is invalid.
     Fault(Fault),

@@ -3,7 +3,7 @@
 use lc_base::{Seq, TxStatus};
 
 /// How a transaction ended, and what it cost.
-#[derive(Clone, Copy, Debug, PartialEq, Eq)]
+#[derive(Clone, Copy)]
 pub struct Receipt {
     pub status: TxStatus,
     /// In steps: at most the budget of a Call, and 0 for a Set or a Deploy.

@@ -4,7 +4,7 @@ use block_codec::FrameError;
 use chain_replay::Refusal;
 
 /// Why a frame of the input is refused.
-#[derive(Clone, Copy, Debug, PartialEq, Eq)]
+#[derive(Clone, Copy)]
 pub enum Cause {
     /// The input ends within it.
     Truncated,

@@ -33,7 +33,7 @@ pub enum InputEnd<C> {
 }
 
 /// Why no further frame was taken, though none was refused.
-#[derive(Clone, Copy, Debug, PartialEq, Eq)]
+#[derive(Clone, Copy)]
 pub enum InputStop<E> {
     /// Reading the input failed.
     Fault,

@@ -22,7 +22,7 @@ use scratch_model::Scratch;
 use std::alloc::Global;
 
 /// What a load reports.
-#[derive(Clone, Copy, Debug, PartialEq, Eq)]
+#[derive(Clone, Copy)]
 pub struct Load {
     /// The number of blocks.
     pub blocks: u32,

@@ -25,7 +25,7 @@ use scratch_model::Scratch;
 use std::alloc::Global;
 
 /// Counts over look-ups.
-#[derive(Clone, Copy, Debug, PartialEq, Eq)]
+#[derive(Clone, Copy)]
 pub struct LookupCounts {
     /// The number of versions that all of them looked at.
     pub entries: u64,
@@ -36,7 +36,7 @@ pub struct LookupCounts {
 }
 
 /// What was counted of one look-up.
-#[derive(Clone, Copy, Debug, PartialEq, Eq)]
+#[derive(Clone, Copy)]
 pub struct LookupCount {
     /// How many versions it looked at.
     pub entries: u64,

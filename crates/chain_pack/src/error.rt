@@ -6,7 +6,7 @@ ghost use Rattle.chain_pack.specs.declared.error.PackError.TheVariants.{Memory a
 use lc_base::Memory;
 
 /// Why a draft was not packed.
-#[derive(Clone, Copy, Debug, PartialEq, Eq)]
+#[derive(Clone, Copy)]
 pub enum PackError {
     /// It is not JSON.
     Json,

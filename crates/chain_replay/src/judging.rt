@@ -7,7 +7,7 @@ use block_codec::{Block, Placement};
 use lc_base::Digest;
 
 /// What bytes are to a chain.
-#[derive(Debug, Drop)]
+#[derive(Drop)]
 pub enum Judged {
     /// They spell the block that the chain holds at this number.
     Known { number: u32 },

@@ -6,7 +6,7 @@ ghost use Rattle.chain_replay.specs.Judging.{is_marked_for};
 use block_codec::{Block, SECOND_VERSION};
 
 /// What says which version the next block of a chain has.
-#[derive(Clone, Copy, Debug, PartialEq, Eq)]
+#[derive(Clone, Copy)]
 pub enum Marking {
     /// The log that keeps the chain: the second version where the log is marked, else the first.
     OfLog { marked: bool },

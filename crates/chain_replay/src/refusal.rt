@@ -3,7 +3,7 @@
 use block_codec::Misplaced;
 
 /// Why a chain refuses bytes as a block.
-#[derive(Clone, Copy, Debug, PartialEq, Eq)]
+#[derive(Clone, Copy)]
 pub enum Refusal {
     /// They spell no block: they are invalid from this offset on.
     Malformed(usize),

@@ -6,7 +6,7 @@ use cli_lines::Cause;
 use lc_base::Memory;
 
 /// How taking the frames of an input came to its end.
-#[derive(Clone, Copy, Debug, PartialEq, Eq)]
+#[derive(Clone, Copy)]
 pub enum RunEnd {
     /// All frames of the input were taken, and by `follow` the last line was printed.
     Whole,
@@ -15,7 +15,7 @@ pub enum RunEnd {
 }
 
 /// Why a command stopped before its end: something outside failed, or memory ran out.
-#[derive(Clone, Copy, Debug, PartialEq, Eq)]
+#[derive(Clone, Copy)]
 pub enum RunStop {
     /// Reading the input failed.
     Unreadable,

@@ -10,7 +10,7 @@ use light_client::{LightFile, check};
 use std::alloc::Global;
 
 /// The lines of a proof.
-#[derive(Debug, Drop)]
+#[derive(Drop)]
 pub(crate) struct Judged {
     pub lines: Seq<Bytes>,
     /// Whether it was rejected.

@@ -16,7 +16,7 @@ use light_client::LightFile;
 use std::alloc::Global;
 
 /// What is kept from one proof to the next.
-#[derive(Debug, Drop)]
+#[derive(Drop)]
 pub struct Checks {
     /// The light file.
     pub file: LightFile,

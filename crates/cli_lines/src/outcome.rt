@@ -9,7 +9,7 @@ use lc_base::{Bytes, Memory, Seq};
 use std::alloc::Global;
 
 /// How a command ends if nothing fails.
-#[derive(Clone, Copy, Debug, PartialEq, Eq)]
+#[derive(Clone, Copy)]
 pub enum Ending {
     Done,
     Refused,
@@ -21,7 +21,7 @@ pub enum Ending {
 }
 
 /// What a command prints, and how it ends.
-#[derive(Debug, Drop)]
+#[derive(Drop)]
 pub struct Outcome {
     /// The pieces to print, each by a call of its own: lines, or frames of blocks.
     pub pieces: Seq<Bytes>,

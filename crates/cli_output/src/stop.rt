@@ -20,7 +20,7 @@ pub fn status_of_stop(stop: RunStop) -> Status
 }
 
 /// Why a command has no outcome to print.
-#[derive(Clone, Copy, Debug, PartialEq, Eq)]
+#[derive(Clone, Copy)]
 pub enum OutcomeStop {
     /// Reading the input failed.
     Unreadable,

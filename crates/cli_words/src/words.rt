@@ -17,7 +17,7 @@ use lc_base::{Digest, Key, Kind, Query};
 pub const MAX_GENERATED_BLOCKS: u32 = 100_000;
 
 /// Which blocks `gen` and `load` make.
-#[derive(Clone, Copy, Debug, PartialEq, Eq)]
+#[derive(Clone, Copy)]
 pub struct Generation {
     /// Their number, from 1 to `MAX_GENERATED_BLOCKS`.
     pub blocks: u32,
@@ -26,7 +26,7 @@ pub struct Generation {
 }
 
 /// An edition of the contract language, of which `fmt` reads contracts.
-#[derive(Clone, Copy, Debug, PartialEq, Eq)]
+#[derive(Clone, Copy)]
 pub enum Edition {
     /// The first: that of the contracts that blocks deploy.
     First,
@@ -35,7 +35,7 @@ pub enum Edition {
 }
 
 /// A version of blocks, of which `pack` makes blocks.
-#[derive(Clone, Copy, Debug, PartialEq, Eq)]
+#[derive(Clone, Copy)]
 pub enum BlockVersion {
     /// The first: that of the blocks before the mark of a log.
     First,
@@ -44,7 +44,7 @@ pub enum BlockVersion {
 }
 
 /// What the program is asked to do.
-#[derive(Clone, Copy, Debug, PartialEq, Eq)]
+#[derive(Clone, Copy)]
 pub enum Command {
     /// `scan KIND KEY BLOCK`: answer a question over the blocks of the input.
     Scan(Query),

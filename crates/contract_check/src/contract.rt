@@ -69,7 +69,7 @@ fn first_fault(alloc: Global, contract: &Contract) -> Result<(), CheckError>
 }
 
 /// A contract that is well kinded. Only `check` makes one.
-#[derive(Debug, Drop)]
+#[derive(Drop)]
 pub struct Checked {
     contract: Contract,
 }

@@ -14,7 +14,7 @@ use contract_tree::{Builtin, Expr, ExprNode, Sign, ValueKind};
 use lc_base::Name;
 
 /// A kind, and the offset of the expression that has it.
-#[derive(Clone, Copy, Debug)]
+#[derive(Clone, Copy)]
 pub struct KindAt {
     /// The offset.
     pub at: u32,

@@ -6,7 +6,7 @@ ghost use Rattle.contract_check.specs.declared.fault.CheckError.TheVariants as C
 use lc_base::Memory;
 
 /// What is wrong with a contract.
-#[derive(Clone, Copy, Debug, PartialEq, Eq)]
+#[derive(Clone, Copy)]
 pub enum CheckKind {
     /// A name that is not visible where it is used or assigned, or a call of something that is no
     /// builtin.
@@ -20,7 +20,7 @@ pub enum CheckKind {
 }
 
 /// The first fault of a contract in the order of checking.
-#[derive(Clone, Copy, Debug, PartialEq, Eq)]
+#[derive(Clone, Copy)]
 pub struct Fault {
     /// The offset of the name, operand or call that is invalid.
     pub at: u32,
@@ -29,7 +29,7 @@ pub struct Fault {
 }
 
 /// Why a contract did not pass the check.
-#[derive(Clone, Copy, Debug, PartialEq, Eq)]
+#[derive(Clone, Copy)]
 pub enum CheckError {
     /// The contract has a fault.
     Refused {

@@ -13,7 +13,7 @@ pub use stop::ParseStop;
 pub use word::{NameKind, is_end};
 
 /// What stops a reader.
-#[derive(Clone, Copy, Debug)]
+#[derive(Clone, Copy)]
 pub enum Obstacle {
     /// No contract continues with the next token, even without limits.
     Unfit,

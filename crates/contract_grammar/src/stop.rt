@@ -5,7 +5,7 @@ use lc_base::Memory;
 use std::alloc::{AllocError, AllocFailed};
 
 /// Why a reader of tokens stopped.
-#[derive(Clone, Copy, Debug)]
+#[derive(Clone, Copy)]
 pub enum ParseStop {
     /// An obstacle at the next token.
     At(Obstacle),

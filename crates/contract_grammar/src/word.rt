@@ -145,7 +145,7 @@ pub fn sign_at(word: &Word, level: u8) -> Option<Sign>
 }
 
 /// Which names are read.
-#[derive(Clone, Copy, Debug)]
+#[derive(Clone, Copy)]
 pub enum NameKind {
     /// A name that is no keyword.
     Plain,

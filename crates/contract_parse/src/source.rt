@@ -13,7 +13,7 @@ use contract_tree::Contract;
 use std::alloc::Global;
 
 /// What is wrong in a source.
-#[derive(Clone, Copy, Debug, PartialEq, Eq)]
+#[derive(Clone, Copy)]
 pub enum SyntaxKind {
     /// A byte that begins no token.
     Byte,
@@ -29,7 +29,7 @@ pub enum SyntaxKind {
 }
 
 /// Why a source was not read.
-#[derive(Clone, Copy, Debug)]
+#[derive(Clone, Copy)]
 pub enum SyntaxError {
     /// The first fault of the source.
     Refused {

@@ -1,7 +1,7 @@
 use lc_base::{Key, Name, TxStatus};
 
 /// A call: which function is called, by whom, in which block, and with what budget.
-#[derive(Clone, Copy, Debug)]
+#[derive(Clone, Copy)]
 pub struct CallSite {
     /// The contract that is called.
     pub contract: Name,
@@ -16,7 +16,7 @@ pub struct CallSite {
 }
 
 /// How a call ended, and what it cost.
-#[derive(Clone, Copy, Debug, PartialEq, Eq)]
+#[derive(Clone, Copy)]
 pub struct Outcome {
     /// The status; other than `Ok` if the call failed.
     pub status: TxStatus,

@@ -8,7 +8,7 @@ use lc_base::{Memory, TxStatus};
 use std::alloc::{AllocError, AllocFailed};
 
 /// Why an evaluation stopped before its end.
-#[derive(Clone, Copy, Debug, PartialEq, Eq)]
+#[derive(Clone, Copy)]
 pub enum EvalStop {
     /// The transaction fails with this status.
     Status(TxStatus),

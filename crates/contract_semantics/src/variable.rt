@@ -1,7 +1,7 @@
 use lc_base::{Name, Value};
 
 /// A visible name and its value.
-#[derive(Debug, Drop)]
+#[derive(Drop)]
 pub struct Variable {
     /// The name, as the contract declares it.
     pub name: Name,

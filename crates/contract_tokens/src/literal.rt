@@ -13,7 +13,7 @@ use lc_base::{Memory, Text, TextError, is_text_byte};
 use std::alloc::Global;
 
 /// What a byte of a text literal stands for.
-#[derive(Clone, Copy, Debug)]
+#[derive(Clone, Copy)]
 pub enum LiteralByte {
     /// The quote that closes the literal.
     Close,

@@ -19,7 +19,7 @@ use lc_base::{Memory, is_name_byte};
 use std::alloc::Global;
 
 /// What is at the start of a source.
-#[derive(Debug, Drop)]
+#[derive(Drop)]
 pub enum Piece {
     /// Nothing: the source ends.
     End,

@@ -6,7 +6,7 @@ ghost use Rattle.contract_tokens.specs.declared.token.TokenError.TheVariants as 
 use lc_base::{Memory, Name, Text};
 
 /// A word of a source, with its offset.
-#[derive(Debug, Drop)]
+#[derive(Drop)]
 pub struct Token {
     /// The offset of its first byte.
     pub at: u32,
@@ -15,7 +15,7 @@ pub struct Token {
 }
 
 /// What a token is.
-#[derive(Debug, Drop)]
+#[derive(Drop)]
 pub enum Word {
     /// A number, 0 to 9223372036854775807.
     Int(i64),
@@ -30,7 +30,7 @@ pub enum Word {
 }
 
 /// A token that is always spelled the same.
-#[derive(Clone, Copy, Debug, PartialEq, Eq)]
+#[derive(Clone, Copy, PartialEq, Eq)]
 pub enum Mark {
     /// The keyword `fn`.
     Fn,
@@ -105,7 +105,7 @@ pub enum Mark {
 }
 
 /// Why a source is not a list of tokens.
-#[derive(Clone, Copy, Debug, PartialEq, Eq)]
+#[derive(Clone, Copy)]
 pub enum TokenKind {
     /// A byte that begins no token.
     Byte,
@@ -114,7 +114,7 @@ pub enum TokenKind {
 }
 
 /// Why no tokens were returned.
-#[derive(Clone, Copy, Debug)]
+#[derive(Clone, Copy)]
 pub enum TokenError {
     /// The first fault of the source.
     Refused {

@@ -13,7 +13,7 @@ use lc_base::Name;
 
 /// A function that every contract may call without declaring it. Keys are texts; block numbers and
 /// indexes, which count from 0, are ints.
-#[derive(Clone, Copy, Debug, PartialEq, Eq)]
+#[derive(Clone, Copy)]
 pub enum Builtin {
     /// `get_int(key)` returns the number at the key.
     GetInt,

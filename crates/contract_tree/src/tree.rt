@@ -10,7 +10,7 @@ pub type StatementList = Vec<Statement>;
 pub type ExprList = Vec<Expr>;
 
 /// A contract.
-#[derive(Debug, Drop)]
+#[derive(Drop)]
 pub struct Contract {
     /// The edition of the language that it is written in.
     pub edition: u8,
@@ -19,7 +19,7 @@ pub struct Contract {
 }
 
 /// A function.
-#[derive(Debug, Drop)]
+#[derive(Drop)]
 pub struct Function {
     /// The offset of its name.
     pub at: u32,
@@ -32,7 +32,7 @@ pub struct Function {
 }
 
 /// A parameter of a function.
-#[derive(Clone, Copy, Debug)]
+#[derive(Clone, Copy)]
 pub struct Param {
     /// The offset of its name.
     pub at: u32,
@@ -43,7 +43,7 @@ pub struct Param {
 }
 
 /// The kind of a value.
-#[derive(Clone, Copy, Debug, PartialEq, Eq)]
+#[derive(Clone, Copy, PartialEq, Eq)]
 pub enum ValueKind {
     /// An integer, an `i64`.
     Int,
@@ -52,7 +52,7 @@ pub enum ValueKind {
 }
 
 /// A statement.
-#[derive(Debug, Drop)]
+#[derive(Drop)]
 #[cycle(statement)]
 pub struct Statement {
     /// The offset of its first token.
@@ -62,7 +62,7 @@ pub struct Statement {
 }
 
 /// What a statement does.
-#[derive(Debug, Drop)]
+#[derive(Drop)]
 #[cycle(statement)]
 pub enum Form {
     /// `let name = value;`
@@ -121,7 +121,7 @@ pub enum Form {
 
 /// An expression. Its offset is that of its first byte for a number, text, name or call, and that
 /// of its operator for the others.
-#[derive(Debug, Drop)]
+#[derive(Drop)]
 #[cycle(expression)]
 pub struct Expr {
     /// The offset.
@@ -131,7 +131,7 @@ pub struct Expr {
 }
 
 /// What an expression is.
-#[derive(Debug, Drop)]
+#[derive(Drop)]
 #[cycle(expression)]
 pub enum ExprNode {
     /// A number, not negative if the expression was read from a source.
@@ -166,7 +166,7 @@ pub enum ExprNode {
 }
 
 /// An operator.
-#[derive(Clone, Copy, Debug, PartialEq, Eq)]
+#[derive(Clone, Copy)]
 pub enum Sign {
     /// `||`
     Or,

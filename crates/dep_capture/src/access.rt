@@ -3,7 +3,7 @@
 use lc_base::{DepList, Key, Value};
 
 /// A key that was read.
-#[derive(Clone, Copy, Debug)]
+#[derive(Clone, Copy)]
 pub struct Read {
     pub key: Key,
     /// The number of the block of the version that the key had, if it had one.
@@ -11,7 +11,7 @@ pub struct Read {
 }
 
 /// A key that was put.
-#[derive(Debug, Drop)]
+#[derive(Drop)]
 pub struct Put {
     pub key: Key,
     pub value: Value,

@@ -20,7 +20,7 @@ use std::alloc::Global;
 
 /// A disk as calls leave it: its content, its length when it was last synced, and the offset and
 /// length of each write since then.
-#[derive(Debug, Drop)]
+#[derive(Drop)]
 pub(crate) struct Replayed {
     content: Vec<u8>,
     synced: usize,

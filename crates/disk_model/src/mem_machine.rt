@@ -24,7 +24,7 @@ use std::marker::Model;
 
 /// What a recorded call did. `at` is an offset in the content. `len` is the number of bytes
 /// recorded for the call, and for a failed write the number of bytes that it was to write.
-#[derive(Clone, Copy, Debug)]
+#[derive(Clone, Copy)]
 pub(crate) enum Mark {
     Wrote { at: u64, len: usize },
     FailedWrite { at: u64, len: usize },
@@ -55,7 +55,7 @@ impl Mark {
 /// A machine in memory: a disk and a wire with one clock, whose moment is the number of calls made.
 /// It records all calls, in memory that it takes when it is made. It fails at given calls, and at
 /// those that do not fit its room; the latter take no number and are not recorded.
-#[derive(Debug, Drop)]
+#[derive(Drop)]
 pub struct MemMachine {
     first: Vec<u8>,
     content: Vec<u8>,

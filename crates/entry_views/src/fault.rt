@@ -3,7 +3,7 @@
 ghost use Rattle.std.specs.Prelude.{◌≡◌, drop};
 
 /// There is no spelling of an entry where one was to be read.
-#[derive(Clone, Copy, Debug, PartialEq, Eq)]
+#[derive(Clone, Copy)]
 pub struct FieldError {
     /// The offset at which the first field begins that is cut short or breaks its rule.
     pub at: usize,

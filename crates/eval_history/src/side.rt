@@ -1,5 +1,5 @@
 /// One of the two lists that belong to a version.
-#[derive(Clone, Copy, Debug)]
+#[derive(Clone, Copy)]
 pub enum Side {
     /// What the version was derived from: its dependencies.
     Back,

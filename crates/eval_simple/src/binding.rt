@@ -1,5 +1,5 @@
 /// What a statement does with a name and a value.
-#[derive(Clone, Copy, Debug, PartialEq, Eq)]
+#[derive(Clone, Copy)]
 pub enum Binding {
     /// The name becomes visible, and stands for the value.
     Declares,

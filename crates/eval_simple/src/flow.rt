@@ -1,5 +1,5 @@
 /// How a statement ended, if it didn't fail.
-#[derive(Clone, Copy, Debug, PartialEq, Eq)]
+#[derive(Clone, Copy)]
 pub enum Flow {
     /// The next statement runs.
     Goes,

@@ -30,7 +30,7 @@ pub enum Turn {
 }
 
 /// Why a follower was discarded.
-#[derive(Clone, Copy, Debug, PartialEq, Eq)]
+#[derive(Clone, Copy)]
 pub enum FollowFault {
     /// A call of the disk failed.
     DiskFault,

@@ -3,7 +3,7 @@
 use chain_replay::Refusal;
 
 /// Why a follower drops a block, or bytes that spell none.
-#[derive(Clone, Copy, Debug, PartialEq, Eq)]
+#[derive(Clone, Copy)]
 pub enum Cause {
     /// The chain refuses it, for this reason. That is never `Misplaced::Number`
     /// (`refuses_none_for_number`): a block is judged only if its number is held, or is the next.

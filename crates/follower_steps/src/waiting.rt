@@ -12,7 +12,7 @@ use lc_base::{Bytes, Memory};
 use std::alloc::Global;
 
 /// A block that waits for those before it.
-#[derive(Debug, Drop)]
+#[derive(Drop)]
 pub struct Waiting {
     /// The index of its frame in the input, from 0.
     pub index: u32,
@@ -23,7 +23,7 @@ pub struct Waiting {
 }
 
 /// What is to become of a block that arrives, by its number, and of bytes that spell none.
-#[derive(Clone, Copy, Debug, PartialEq, Eq)]
+#[derive(Clone, Copy)]
 pub enum Arrival {
     /// Its number, this one, is held: it is known, or a fork.
     Held { number: u32 },

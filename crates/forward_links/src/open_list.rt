@@ -7,7 +7,7 @@ use lc_base::Digest;
 use prov_entry::no_uses;
 
 /// What is hashed of a forward list.
-#[derive(Clone, Copy, Debug, PartialEq, Eq)]
+#[derive(Clone, Copy)]
 pub struct OpenList {
     /// The number of its uses.
     pub count: u64,

@@ -5,7 +5,7 @@ use crate::value::Value;
 use lc_names::Key;
 
 /// What is asked about the version of a key.
-#[derive(Clone, Copy, Debug, PartialEq, Eq)]
+#[derive(Clone, Copy)]
 pub enum Kind {
     /// Its value.
     Hist,
@@ -16,7 +16,7 @@ pub enum Kind {
 }
 
 /// A question about the newest version of a key in the blocks up to `at`.
-#[derive(Clone, Copy, Debug, PartialEq, Eq)]
+#[derive(Clone, Copy)]
 pub struct Query {
     pub kind: Kind,
     pub key: Key,
@@ -25,7 +25,7 @@ pub struct Query {
 }
 
 /// The answer to a question.
-#[derive(Debug, Drop)]
+#[derive(Drop)]
 pub enum Answer {
     /// The key has no version in these blocks.
     Nothing,

@@ -8,7 +8,7 @@ use std::alloc::{AllocError, AllocFailed};
 
 /// Why a call that needs its host returned no answer. The host is what answers the questions of a
 /// contract, or a source or a device that was lent to the call.
-#[derive(Clone, Copy, Debug, PartialEq, Eq)]
+#[derive(Clone, Copy, PartialEq, Eq)]
 pub enum HostError {
     /// The host failed.
     Fault,

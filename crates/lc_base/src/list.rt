@@ -21,7 +21,7 @@ pub trait Duplicate: Drop {
 }
 
 /// A list that grows at its end, and keeps the allocator that it was made with.
-#[derive(Debug, Drop)]
+#[derive(Drop)]
 pub struct Seq<T> {
     items: Vec<T>,
 }

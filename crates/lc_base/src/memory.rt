@@ -5,7 +5,7 @@ ghost use Rattle.std.specs.Prelude.{◌≡◌, replicate, length, IfOk};
 use std::alloc::{AllocError, AllocFailed, Global};
 
 /// Out of memory.
-#[derive(Clone, Copy, Debug, PartialEq, Eq)]
+#[derive(Clone, Copy, PartialEq, Eq)]
 pub struct Memory;
 
 impl From<AllocError> for Memory {

@@ -7,7 +7,7 @@ use lc_names::Key;
 use std::alloc::Global;
 
 /// A version that another was derived from: a key, and the block of that version.
-#[derive(Clone, Copy, Debug, PartialEq, Eq)]
+#[derive(Clone, Copy, PartialEq, Eq)]
 pub struct Dep {
     pub key: Key,
     /// The number of its block.
@@ -15,7 +15,7 @@ pub struct Dep {
 }
 
 /// A written version of a key, with the versions that it was derived from.
-#[derive(Debug, Drop)]
+#[derive(Drop)]
 pub struct Row {
     pub key: Key,
     /// The number of its block.
@@ -28,7 +28,7 @@ pub struct Row {
 }
 
 /// A version of a key, without the key.
-#[derive(Debug, Drop)]
+#[derive(Drop)]
 pub struct Version {
     /// The number of its block.
     pub block: u32,

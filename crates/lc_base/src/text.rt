@@ -15,7 +15,7 @@ use std::marker::Model;
 use thiserror::Error;
 
 /// A text: at most `MAX_TEXT_BYTES` bytes, each from 0x20 to 0x7E.
-#[derive(Debug, Drop)]
+#[derive(Drop)]
 pub struct Text {
     bytes: Vec<u8>,
 }

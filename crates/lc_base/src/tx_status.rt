@@ -4,7 +4,7 @@ ghost use Rattle.std.specs.Prelude.{◌≡◌};
 ghost use Rattle.lc_base.specs.TxStatus.{tx_status_number};
 
 /// How a transaction ended. The first failure in the order of evaluation decides.
-#[derive(Clone, Copy, Debug, PartialEq, Eq)]
+#[derive(Clone, Copy, PartialEq, Eq)]
 pub enum TxStatus {
     /// It succeeded.
     Ok = 0,

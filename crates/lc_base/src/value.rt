@@ -4,7 +4,7 @@ use crate::text::Text;
 use std::alloc::Global;
 
 /// What a version of a key holds.
-#[derive(Debug, Drop)]
+#[derive(Drop)]
 pub enum Value {
     Int(i64),
     Text(Text),

@@ -27,7 +27,7 @@ pub fn one_more(count: u64) -> u64
 
 /// The calls of a fake with limited room. Each call takes the next number, from 0, unless it does
 /// not fit the room.
-#[derive(Debug, Drop)]
+#[derive(Drop)]
 pub struct Calls {
     room: Room,
     made: u64,

@@ -19,7 +19,7 @@ use std::alloc::Global;
 use std::marker::Model;
 
 /// How much a fake can record.
-#[derive(Clone, Copy, Debug, PartialEq, Eq)]
+#[derive(Clone, Copy)]
 pub struct Room {
     /// The number of calls.
     pub calls: u32,
@@ -28,7 +28,7 @@ pub struct Room {
 }
 
 /// Where a printed piece lies among all printed bytes, and the moment at which its printing began.
-#[derive(Clone, Copy, Debug)]
+#[derive(Clone, Copy)]
 struct Mark {
     at: u64,
     start: usize,
@@ -37,7 +37,7 @@ struct Mark {
 
 /// A wire that records what is printed. It takes its memory when it is made, and fails at given
 /// calls.
-#[derive(Debug, Drop)]
+#[derive(Drop)]
 pub struct MemWire {
     marks: Vec<Mark>,
     bytes: Vec<u8>,

@@ -9,7 +9,7 @@ ghost use Rattle.lc_base.specs.Faults.{HasCause};
 use lc_base::HostError;
 
 /// A call of the outside failed.
-#[derive(Clone, Copy, Debug, PartialEq, Eq)]
+#[derive(Clone, Copy, PartialEq, Eq)]
 pub struct Failed;
 
 impl From<Failed> for HostError {

@@ -12,7 +12,7 @@ use std::marker::Model;
 use thiserror::Error;
 
 /// A key: 1 to 64 bytes of `a-z 0-9 . / _ -`, ordered byte by byte.
-#[derive(Clone, Copy, Debug, PartialEq, Eq, PartialOrd, Ord, Hash)]
+#[derive(Clone, Copy, PartialEq, Eq, PartialOrd, Ord, Hash)]
 pub struct Key {
     padded: Padded<MAX_KEY_BYTES>,
 }
@@ -31,7 +31,7 @@ impl Model for Key {
 }
 
 /// Why bytes are not a key or a name.
-#[derive(Clone, Copy, Debug, PartialEq, Eq, Error)]
+#[derive(Clone, Copy, Debug, Error)]
 pub enum KeyError {
     /// There are no bytes.
     #[error("empty")]

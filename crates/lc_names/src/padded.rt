@@ -18,7 +18,7 @@ use std::marker::Model;
 
 /// At most `N` bytes, none of them zero, ordered byte by byte. `N` is a multiple of eight, since they
 /// are compared eight bytes at a time.
-#[derive(Clone, Copy, Debug)]
+#[derive(Clone, Copy)]
 pub struct Padded<const N: usize> {
     len: usize,
     bytes: [u8; N],

@@ -5,7 +5,7 @@ use lc_base::Digest;
 use proof_verifier::Reject;
 
 /// The first check of a proof by a light file that fails.
-#[derive(Clone, Copy, Debug, PartialEq, Eq)]
+#[derive(Clone, Copy)]
 pub enum LightReject {
     /// The bytes aren't a proof.
     Malformed {

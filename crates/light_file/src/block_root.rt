@@ -3,7 +3,7 @@
 use lc_base::Digest;
 
 /// The digest of a block, and the root at it.
-#[derive(Clone, Copy, Debug, PartialEq, Eq)]
+#[derive(Clone, Copy)]
 pub struct BlockRoot {
     /// The digest of the block.
     pub digest: Digest,

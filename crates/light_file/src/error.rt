@@ -7,7 +7,7 @@ use lc_io::Failed;
 use std::alloc::AllocError;
 
 /// Why no light file was read.
-#[derive(Clone, Copy, Debug, PartialEq, Eq)]
+#[derive(Clone, Copy)]
 pub enum LightError {
     /// The input has fewer than `HEAD_BYTES` bytes, doesn't begin with `MAGIC`, or has fewer than
     /// `BLOCK_ROOT_BYTES` bytes for each of its blocks.

@@ -13,7 +13,7 @@ use std::marker::Model;
 
 /// The digest of each of the first blocks of a chain, and the root at it. It keeps the bytes of the
 /// file, `BLOCK_ROOT_BYTES` for each block.
-#[derive(Debug, Drop)]
+#[derive(Drop)]
 pub struct LightFile {
     count: u32,
     bytes: Bytes,

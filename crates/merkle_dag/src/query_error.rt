@@ -6,7 +6,7 @@ ghost use Rattle.merkle_dag.specs.Questions.{query_error};
 use lc_base::HostError;
 
 /// Why a question about a lineage has no answer.
-#[derive(Clone, Copy, Debug, PartialEq, Eq)]
+#[derive(Clone, Copy, PartialEq, Eq)]
 pub enum QueryError {
     /// It goes beyond the lineage: a block that it names is after the last one, or there are no
     /// blocks, or it is about a later block than the root's that it is asked under.

@@ -11,7 +11,7 @@ use lc_base::Digest;
 pub(crate) const NO_HASH: Digest = Digest([0; 32]);
 
 /// A hash, and its place in a level, from 0.
-#[derive(Clone, Copy, Debug, PartialEq, Eq)]
+#[derive(Clone, Copy)]
 pub struct HashAt {
     pub index: u32,
     pub hash: Digest,

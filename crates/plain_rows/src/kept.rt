@@ -13,7 +13,7 @@ use rows_index::IndexList;
 use std::alloc::Global;
 
 /// A row, whose dependencies are the indexes of their rows.
-#[derive(Debug, Drop)]
+#[derive(Drop)]
 pub struct KeptRow {
     pub key: Key,
     /// The number of its block.

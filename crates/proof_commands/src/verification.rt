@@ -4,7 +4,7 @@ use lc_base::Answer;
 use proof_verifier::Reject;
 
 /// Why a text isn't hex.
-#[derive(Clone, Copy, Debug, PartialEq, Eq)]
+#[derive(Clone, Copy)]
 pub enum HexFault {
     /// The number of its bytes is odd.
     Odd,
@@ -13,7 +13,7 @@ pub enum HexFault {
 }
 
 /// The outcome for a proof in hex.
-#[derive(Debug, Drop)]
+#[derive(Drop)]
 pub enum Verification {
     /// The proof is accepted with this answer.
     Accepted(Answer),

@@ -62,7 +62,7 @@ fn next_link(links: &LinkView, at: u32) -> Option<Link>
 
 /// The lookup of the latest version of a key up to a block: from a header of a later block, the
 /// highest link to a later block leads on, or else the lowest link.
-#[derive(Clone, Copy, Debug)]
+#[derive(Clone, Copy)]
 pub struct Lookup {
     /// The block.
     pub at: u32,

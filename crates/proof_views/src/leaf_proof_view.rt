@@ -14,7 +14,7 @@ use merkle_tree::audit_length;
 use std::marker::Model;
 
 /// Under which root a leaf is, and which leaf it is.
-#[derive(Clone, Copy, Debug)]
+#[derive(Clone, Copy)]
 pub struct LeafPlace {
     /// The block of the root.
     pub root_at: u32,

@@ -24,7 +24,7 @@ use lc_base::{Kind, Query};
 use std::marker::Model;
 
 /// Why bytes aren't a proof.
-#[derive(Clone, Copy, Debug, PartialEq, Eq)]
+#[derive(Clone, Copy)]
 pub enum ViewError {
     /// The offset of the first field that is cut short or breaks its rule.
     Malformed { at: usize },

@@ -4,7 +4,7 @@
 use lc_base::{Digest, Key, Seq, Value};
 
 /// A link from a version to an older one of its key.
-#[derive(Clone, Copy, Debug, PartialEq, Eq)]
+#[derive(Clone, Copy)]
 pub struct Link {
     /// The block of the older version.
     pub block: u32,
@@ -16,7 +16,7 @@ pub struct Link {
 pub type LinkList = Seq<Link>;
 
 /// A version without its value: its key, block and transaction, and what it names by digests.
-#[derive(Debug, Drop)]
+#[derive(Drop)]
 pub struct Header {
     pub key: Key,
     /// The number of its block.
@@ -35,7 +35,7 @@ pub struct Header {
 }
 
 /// A version that another was derived from, with the digest of its header.
-#[derive(Clone, Copy, Debug, PartialEq, Eq)]
+#[derive(Clone, Copy)]
 pub struct BodyDep {
     pub key: Key,
     /// The number of its block.
@@ -48,7 +48,7 @@ pub struct BodyDep {
 pub type BodyDepList = Seq<BodyDep>;
 
 /// The value of a version, and what it was derived from.
-#[derive(Debug, Drop)]
+#[derive(Drop)]
 pub struct Body {
     pub value: Value,
     /// At most `MAX_DEPS`.
@@ -56,7 +56,7 @@ pub struct Body {
 }
 
 /// What the tree over all keys has of a key, or of the sentinel, which comes before all keys.
-#[derive(Clone, Copy, Debug, PartialEq, Eq)]
+#[derive(Clone, Copy)]
 pub struct Leaf {
     /// `None` for the sentinel.
     pub key: Option<Key>,

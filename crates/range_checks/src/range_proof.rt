@@ -10,7 +10,7 @@ pub type BodyList = Seq<Body>;
 
 /// Shows all versions of a key from one block to another, both included, to a reader who has the
 /// root at a block.
-#[derive(Debug, Drop)]
+#[derive(Drop)]
 pub struct RangeProof {
     pub key: Key,
     /// The first block.

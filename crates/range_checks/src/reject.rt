@@ -3,7 +3,7 @@
 use lc_base::Digest;
 
 /// The first check of a range proof that fails.
-#[derive(Clone, Copy, Debug, PartialEq, Eq)]
+#[derive(Clone, Copy)]
 pub enum RangeReject {
     /// The bytes aren't a range proof.
     Malformed {

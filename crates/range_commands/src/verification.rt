@@ -5,7 +5,7 @@ use proof_commands::HexFault;
 use range_verifier::RangeReject;
 
 /// The outcome for a range proof in hex.
-#[derive(Debug, Drop)]
+#[derive(Drop)]
 pub enum RangeVerification {
     /// The proof is accepted: all versions between the blocks, the first one first.
     Shown(VersionList),

@@ -7,7 +7,7 @@ use lc_base::Memory;
 use range_checks::RangeReject;
 
 /// Why a range proof shows nothing.
-#[derive(Clone, Copy, Debug, PartialEq, Eq)]
+#[derive(Clone, Copy)]
 pub enum RangeError {
     /// A check fails.
     Rejected(RangeReject),

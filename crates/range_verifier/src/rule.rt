@@ -9,7 +9,7 @@ use proof_verifier::{Lookup, NextHeader};
 use prov_entry::Link;
 
 /// All versions of a key between two blocks, those in the two blocks included.
-#[derive(Clone, Copy, Debug)]
+#[derive(Clone, Copy)]
 pub(crate) struct InRange {
     /// The first block.
     pub(crate) from: u32,

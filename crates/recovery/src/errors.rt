@@ -3,7 +3,7 @@
 use rooted_chain::Refusal;
 
 /// Why no node could be started.
-#[derive(Clone, Copy, Debug, PartialEq, Eq)]
+#[derive(Clone, Copy)]
 pub enum StartError {
     /// The disk holds something other than a log.
     NotALog,
@@ -18,7 +18,7 @@ pub enum StartError {
 }
 
 /// Why a block was not taken.
-#[derive(Clone, Copy, Debug, PartialEq, Eq)]
+#[derive(Clone, Copy)]
 pub enum AppendError {
     /// The chain refuses it, for this reason.
     Refused(Refusal),

@@ -10,7 +10,7 @@ use std::random::RandomSource;
 
 /// The allocator, and the hasher of the maps and sets that look up what blocks name. The keys of
 /// the hasher are random, so whoever writes blocks cannot choose names that all collide.
-#[derive(Clone, Copy, Debug)]
+#[derive(Clone, Copy)]
 pub struct Resources {
     pub alloc: Global,
     pub hasher: RandomState,
@@ -27,7 +27,7 @@ impl Resources {
 }
 
 /// A source that has zeros alone: by it, tests and cases hash alike in each run.
-#[derive(Clone, Copy, Debug)]
+#[derive(Clone, Copy)]
 pub struct Zeros;
 
 impl RandomSource for Zeros {

@@ -3,7 +3,7 @@
 use lc_base::DepList;
 
 /// A version with all of its ancestors.
-#[derive(Debug, Drop)]
+#[derive(Drop)]
 pub struct Trace {
     /// The number of the version's block.
     pub block: u32,

@@ -17,7 +17,7 @@ use std::marker::Model;
 
 /// A scratch device that keeps bytes in memory, which it takes when it is made. It fails at given
 /// calls, and at those that do not fit its room; the latter take no number.
-#[derive(Debug, Drop)]
+#[derive(Drop)]
 pub struct MemScratch {
     bytes: Vec<u8>,
     calls: Calls,

@@ -20,7 +20,7 @@ ghost use Rattle.skip_list.specs.{
 use entry_store::{Counter, EntryId, Hop, Steps, Store};
 
 /// The outcome of a look at a version.
-#[derive(Clone, Copy, Debug, PartialEq, Eq)]
+#[derive(Clone, Copy)]
 pub enum Turn {
     /// The version is the answer.
     Answer,

@@ -5,7 +5,7 @@ use lc_base::Digest;
 
 /// What a leaf says of the versions of its key: the block and the digest of the newest one, and the
 /// number and the digest of its open list. `index` is that of the leaf.
-#[derive(Clone, Copy, Debug, PartialEq, Eq)]
+#[derive(Clone, Copy)]
 pub struct LeafState {
     pub index: u32,
     pub newest_block: u32,

@@ -23,7 +23,7 @@ use std::hash::RandomState;
 use std::marker::Model;
 
 /// What is kept of a leaf beside its key.
-#[derive(Clone, Copy, Debug)]
+#[derive(Clone, Copy)]
 pub(crate) struct LeafEntry {
     /// The index of the leaf with the next greater key; 0 if no key is greater.
     next: u32,

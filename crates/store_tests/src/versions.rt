@@ -47,7 +47,7 @@ impl Model for Versions {
 }
 
 /// What it took to add a version.
-#[derive(Clone, Copy, Debug, PartialEq, Eq)]
+#[derive(Clone, Copy)]
 pub struct Added {
     /// The number of its links.
     pub links: usize,

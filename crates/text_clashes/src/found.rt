@@ -4,7 +4,7 @@
 use lc_base::Bytes;
 
 /// Two texts that differ and have one digest.
-#[derive(Debug, Drop)]
+#[derive(Drop)]
 pub(crate) struct Found {
     /// The place of the first list's text, from 0.
     pub(crate) place: usize,

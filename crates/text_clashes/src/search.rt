@@ -15,7 +15,7 @@ use std::alloc::Global;
 use std::marker::Model;
 
 /// A search for the first clash of some texts with others, which come one after another.
-#[derive(Debug, Drop)]
+#[derive(Drop)]
 pub struct ClashSearch {
     given: TextList,
     table: Table,

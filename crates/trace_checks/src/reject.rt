@@ -7,7 +7,7 @@ use proof_checks::Reject;
 /// The first check of a proof of all ancestors that fails. The version whose ancestors they are is
 /// item 0; its ancestors are items 1, 2, and so on, in the order of the proof. A version is wanted
 /// from the body that names it until its own item.
-#[derive(Clone, Copy, Debug, PartialEq, Eq)]
+#[derive(Clone, Copy)]
 pub enum TraceReject {
     /// The bytes aren't a proof of ancestors.
     Malformed {

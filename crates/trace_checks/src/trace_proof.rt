@@ -6,7 +6,7 @@ use proof_codec::Proof;
 use prov_entry::{Body, Header};
 
 /// The header and the body of an ancestor.
-#[derive(Debug, Drop)]
+#[derive(Drop)]
 pub struct TraceItem {
     pub header: Header,
     pub body: Body,
@@ -16,7 +16,7 @@ pub struct TraceItem {
 pub type TraceItemList = Seq<TraceItem>;
 
 /// Shows all ancestors of a version to a reader who has the root at a block.
-#[derive(Debug, Drop)]
+#[derive(Drop)]
 pub struct TraceProof {
     /// Shows which version it is, and what it was derived from directly: a proof of kind `back`.
     pub start: Proof,

@@ -5,7 +5,7 @@ use row_ancestors::Trace;
 use trace_checks::TraceReject;
 
 /// The outcome for a proof of ancestors in hex.
-#[derive(Debug, Drop)]
+#[derive(Drop)]
 pub enum TraceVerification {
     /// The proof is accepted: the version with its ancestors, or `None` if there is no version.
     Shown(Option<Trace>),

@@ -7,7 +7,7 @@ use lc_base::Memory;
 use trace_checks::TraceReject;
 
 /// Why a proof of ancestors shows nothing.
-#[derive(Clone, Copy, Debug, PartialEq, Eq)]
+#[derive(Clone, Copy)]
 pub enum TraceError {
     /// A check fails.
     Rejected(TraceReject),

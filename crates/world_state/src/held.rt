@@ -7,7 +7,7 @@ use lc_base::{Duplicate, Key, Memory, Row, Value};
 use std::alloc::Global;
 
 /// The newest version of a key: its block and its value.
-#[derive(Debug, Drop)]
+#[derive(Drop)]
 pub struct Held {
     /// The number of its block.
     pub block: u32,
