@@ -4,7 +4,7 @@ ghost use Rattle.std.specs.Prelude.{◌≡◌};
 ghost use Rattle.byte_fields.specs.declared.fault.ReadError.TheVariants.{Fault as AtFault, Memory as NoMemory};
 
 use lc_base::Memory;
-use std::alloc::{AllocError, AllocFailed};
+use std::alloc::AllocError;
 
 /// A field is cut short or breaks its rule.
 #[derive(Clone, Copy)]
@@ -42,14 +42,6 @@ impl From<AllocError> for ReadError {
     ghost from_gives = { λ _ error. error ≡ NoMemory };
 
     fn from(_error: AllocError) -> ReadError {
-        ReadError::Memory
-    }
-}
-
-impl<T: Drop> From<AllocFailed<T>> for ReadError {
-    ghost from_gives = { λ _ error. error ≡ NoMemory };
-
-    fn from(_error: AllocFailed<T>) -> ReadError {
         ReadError::Memory
     }
 }

@@ -1,9 +1,6 @@
 //! How `append` and `follow` end, and why a command stops.
 
-ghost use Rattle.std.specs.Prelude.{◌≡◌};
-
 use cli_lines::Cause;
-use lc_base::Memory;
 
 /// How taking the frames of an input came to its end.
 #[derive(Clone, Copy)]
@@ -27,14 +24,4 @@ pub enum RunStop {
     ScratchFault,
     /// Memory ran out.
     Memory,
-}
-
-impl From<Memory> for RunStop {
-    ghost use Rattle.cli_append.specs.declared.ending.RunStop.TheVariants.{Memory};
-
-    ghost from_gives = { λ _ stop. stop ≡ Memory };
-
-    fn from(_memory: Memory) -> RunStop {
-        RunStop::Memory
-    }
 }

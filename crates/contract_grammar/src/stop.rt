@@ -2,7 +2,7 @@ ghost use Rattle.std.specs.Prelude.{◌≡◌};
 
 use crate::Obstacle;
 use lc_base::Memory;
-use std::alloc::{AllocError, AllocFailed};
+use std::alloc::AllocFailed;
 
 /// Why a reader of tokens stopped.
 #[derive(Clone, Copy)]
@@ -19,16 +19,6 @@ impl From<Memory> for ParseStop {
     ghost from_gives = { λ _ error. error ≡ stops.Memory };
 
     fn from(_error: Memory) -> ParseStop {
-        ParseStop::Memory
-    }
-}
-
-impl From<AllocError> for ParseStop {
-    ghost use Rattle.contract_grammar.specs.declared.stop.ParseStop.TheVariants as stops;
-
-    ghost from_gives = { λ _ error. error ≡ stops.Memory };
-
-    fn from(_error: AllocError) -> ParseStop {
         ParseStop::Memory
     }
 }

@@ -5,7 +5,7 @@ ghost use Rattle.std.specs.Prelude.{◌≡◌};
 ghost use Rattle.contract_semantics.specs.declared.stop.EvalStop.TheVariants as stops;
 
 use lc_base::{Memory, TxStatus};
-use std::alloc::{AllocError, AllocFailed};
+use std::alloc::AllocFailed;
 
 /// Why an evaluation stopped before its end.
 #[derive(Clone, Copy)]
@@ -30,14 +30,6 @@ impl From<Memory> for EvalStop {
     ghost from_gives = { λ _ stop. stop ≡ stops.Memory };
 
     fn from(_memory: Memory) -> EvalStop {
-        EvalStop::Memory
-    }
-}
-
-impl From<AllocError> for EvalStop {
-    ghost from_gives = { λ _ stop. stop ≡ stops.Memory };
-
-    fn from(_error: AllocError) -> EvalStop {
         EvalStop::Memory
     }
 }

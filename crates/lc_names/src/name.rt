@@ -12,7 +12,7 @@ use crate::limits::MAX_NAME_BYTES;
 use crate::padded::Padded;
 use std::marker::Model;
 
-/// A name: 1 to 16 bytes of `a-z 0-9 _`, the first a letter, ordered byte by byte.
+/// A name: 1 to 16 bytes of `a-z 0-9 _`, the first a letter.
 #[derive(Clone, Copy, PartialEq, Eq, Hash)]
 pub struct Name {
     padded: Padded<MAX_NAME_BYTES>,
