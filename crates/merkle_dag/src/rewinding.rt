@@ -38,10 +38,10 @@ pub(crate) fn first_blocks(alloc: Global, kept: &Kept, at: u32) -> Result<Kept, 
         kept.now.bodies) }
 {
     let count = at as usize + 1;
-    let index = front(alloc, &kept.index, at)?;
-    let bodies = kept.bodies.front(index.store().count())?;
     let digests = first_digests(alloc, &kept.digests, count)?;
     let roots = first_digests(alloc, &kept.roots, count)?;
+    let index = front(alloc, &kept.index, at)?;
+    let bodies = kept.bodies.front(index.store().count())?;
     Ok(Kept {
         index,
         bodies,
