@@ -265,7 +265,7 @@ class Definitions:
         if token in self.items or token in self.owners:
             return True
         path, name = self.scope.names.get(token, ("..", "-"))
-        is_type = ".specs.declared." in path or ".specs.contracts." in path
+        is_type = ".declared." in path or ".contracts." in path
         if path.split(".")[1] in self.graph.crates and not is_type:
             return name in self.graph.definitions(path).owners
         return name[0].isupper() or name in CASES
