@@ -6,6 +6,7 @@ pub mod Formatted
 pub mod Runs
 pub mod LogRuns
 pub mod Asked
+pub mod Blames
 pub mod Ends
 pub mod Moments
 pub mod Held

@@ -1,4 +1,4 @@
-use Rattle.std.proofs.Common.{Some, ap, refl, sym, ◌∙◌}
+use Rattle.std.proofs.Common.{Err, Some, ap, refl, sym, ◌∙◌}
 use Rattle.scratch_model.specs.Scratch.{is_known}
 use Rattle.cli_words.specs.declared.words.Command.TheVariants.{Append, Follow, Upgrade}
 use Rattle.block_log.specs.Log.{next_in_log}
@@ -9,6 +9,9 @@ use Rattle.chain_cli.proofs.Runs.{with_status}
 use Rattle.chain_cli.proofs.LogRuns.{append_run, follow_run, refused_run, upgrade_run}
 use Rattle.chain_cli.proofs.Ends.{answer_ends, answer_has_log, marks_log, of_given, upgrade_ends}
 use Rattle.chain_cli.proofs.Ends.{upgrade_silent, uses_both}
+use Rattle.cli_append.proofs.Causes.{carried, kept}
+use Rattle.cli_append.specs.declared.ending.RunStop.TheVariants as stops
+use Rattle.chain_cli.proofs.Blames.{marked_blames, marked_unblamed, none_blamed, taken_blames, unblamed}
 use Rattle.chain_cli.proofs.Moments.{stays_twice, taken_any, taken_log, upgrade_any, upgrade_log}
 use Rattle.chain_cli.proofs.over_log.change_log.Goals as goal
 
@@ -159,3 +162,84 @@ returns-in-Err-clause-ends g c =
     c.tell.ensures.ends (Some c.args.command.now)
     (no_start_ends c.start_outcome.result c.in-Err.error (Some c.args.command.now) uses.0
     c.start_outcome.ensures.outcome c.start_outcome.ensures.reads (λ failed. uses.1))
+
+pub returns-in-Append-clause-unreadable : goal.returns-in-Append-clause-unreadable
+returns-in-Append-clause-unreadable g c =
+    taken_blames c.append.result c.run_answer.result stops.Unreadable _ _ _ c.run_answer.ensures
+    refl c.append.ensures.unreadable
+
+pub returns-in-Append-clause-disk_fault : goal.returns-in-Append-clause-disk_fault
+returns-in-Append-clause-disk_fault g c =
+    taken_blames c.append.result c.run_answer.result stops.DiskFault _ _ _ c.run_answer.ensures
+    (unblamed _ _ c.in-Ok.ensures.disk_fault) c.append.ensures.disk_fault
+
+pub returns-in-Append-clause-scratch_fault : goal.returns-in-Append-clause-scratch_fault
+returns-in-Append-clause-scratch_fault g c =
+    taken_blames c.append.result c.run_answer.result stops.ScratchFault _ _ _ c.run_answer.ensures
+    (unblamed _ _ c.in-Ok.ensures.scratch.cause) c.append.ensures.scratch_fault
+
+pub returns-in-Append-clause-untold : goal.returns-in-Append-clause-untold
+returns-in-Append-clause-untold g c =
+    taken_blames c.append.result c.run_answer.result stops.Untold _ _ _ c.run_answer.ensures
+    c.start.ensures.wire.faults c.append.ensures.untold
+
+pub returns-in-Follow-clause-unreadable : goal.returns-in-Follow-clause-unreadable
+returns-in-Follow-clause-unreadable g c =
+    taken_blames c.follow.result c.run_answer-in-Follow.result stops.Unreadable _ _ _ c.run_answer-in-Follow.ensures
+    refl c.follow.ensures.unreadable
+
+pub returns-in-Follow-clause-disk_fault : goal.returns-in-Follow-clause-disk_fault
+returns-in-Follow-clause-disk_fault g c =
+    taken_blames c.follow.result c.run_answer-in-Follow.result stops.DiskFault _ _ _ c.run_answer-in-Follow.ensures
+    (unblamed _ _ c.in-Ok.ensures.disk_fault) c.follow.ensures.disk_fault
+
+pub returns-in-Follow-clause-scratch_fault : goal.returns-in-Follow-clause-scratch_fault
+returns-in-Follow-clause-scratch_fault g c =
+    taken_blames c.follow.result c.run_answer-in-Follow.result stops.ScratchFault _ _ _ c.run_answer-in-Follow.ensures
+    (unblamed _ _ c.in-Ok.ensures.scratch.cause) c.follow.ensures.scratch_fault
+
+pub returns-in-Follow-clause-untold : goal.returns-in-Follow-clause-untold
+returns-in-Follow-clause-untold g c =
+    taken_blames c.follow.result c.run_answer-in-Follow.result stops.Untold _ _ _ c.run_answer-in-Follow.ensures
+    c.start.ensures.wire.faults c.follow.ensures.untold
+
+pub returns-in_default-clause-unreadable : goal.returns-in_default-clause-unreadable
+returns-in_default-clause-unreadable g c =
+    marked_unblamed c.upgrade.result c.upgrade_answer.result stops.Unreadable _ _
+    c.upgrade_answer.ensures refl c.upgrade.ensures.reads
+
+pub returns-in_default-clause-scratch_fault : goal.returns-in_default-clause-scratch_fault
+returns-in_default-clause-scratch_fault g c =
+    marked_unblamed c.upgrade.result c.upgrade_answer.result stops.ScratchFault _ _
+    c.upgrade_answer.ensures (unblamed _ _ c.in-Ok.ensures.scratch.cause) c.upgrade.ensures.keeps
+
+pub returns-in_default-clause-disk_fault : goal.returns-in_default-clause-disk_fault
+returns-in_default-clause-disk_fault g c =
+    marked_blames c.upgrade.result c.upgrade_answer.result stops.DiskFault _ _ _
+    c.upgrade_answer.ensures (unblamed _ _ c.in-Ok.ensures.disk_fault) c.upgrade.ensures.disk_fault
+
+pub returns-in_default-clause-untold : goal.returns-in_default-clause-untold
+returns-in_default-clause-untold g c =
+    marked_blames c.upgrade.result c.upgrade_answer.result stops.Untold _ _ _
+    c.upgrade_answer.ensures c.start.ensures.wire.faults c.upgrade.ensures.untold
+
+pub returns-in-Err-clause-unreadable : goal.returns-in-Err-clause-unreadable
+returns-in-Err-clause-unreadable g c = none_blamed _ _ _ refl
+    (λ blames. c.start_outcome.ensures.reads (c.tell.ensures.unreadable blames))
+
+pub returns-in-Err-clause-disk_fault : goal.returns-in-Err-clause-disk_fault
+returns-in-Err-clause-disk_fault g c =
+    kept _ _ _ _ _ c.tell.ensures.disk.faults c.in-Err.ensures.disk_fault
+    (λ blames. c.tell.ensures.disk_blamed (c.start_outcome.ensures.disk_blamed (cc blames)))
+    (λ blames. ap Err (c.start_outcome.ensures.disk_fault (c.tell.ensures.disk_fault blames)))
+
+pub returns-in-Err-clause-scratch_fault : goal.returns-in-Err-clause-scratch_fault
+returns-in-Err-clause-scratch_fault g c =
+    kept _ _ _ _ _ refl c.in-Err.ensures.scratch.cause
+    (λ blames. c.tell.ensures.scratch_blamed (c.start_outcome.ensures.scratch_blamed (cc blames)))
+    (λ blames. ap Err (c.start_outcome.ensures.scratch_fault (c.tell.ensures.scratch_fault blames)))
+
+pub returns-in-Err-clause-untold : goal.returns-in-Err-clause-untold
+returns-in-Err-clause-untold g c =
+    carried _ _ _ _ _ c.start.ensures.wire.faults c.tell.ensures.cause (λ blames. blames)
+    (λ blames. blames)
