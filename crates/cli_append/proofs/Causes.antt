@@ -1,5 +1,5 @@
 -- Counts of faults over two calls, one of which leaves a count as it was.
-use Rattle.std.proofs.Common.{◌≡◌, ℕ, sym, subst}
+use Rattle.std.proofs.Common.{◌≡◌, ℕ, sym, subst, arith}
 use Rattle.lc_base.specs.Faults.{HasCause}
 
 -- What the second call blames, both blame, if they blame for the same.
@@ -26,3 +26,11 @@ kept before mid now B C same cause there back =
       told =
           λ differ. there (cause.told differ);
     })
+
+-- Calls that cannot blame leave the count as it was.
+pub none_blamed : (before now : ℕ) (B : Type 0) → now ≡ before → (B → ⊥) → HasCause before now B
+none_blamed before now B same never = record {
+  later = omega (arith, same);
+  failed = λ blames. absurd (never blames);
+  told = λ differ. absurd (differ same);
+}

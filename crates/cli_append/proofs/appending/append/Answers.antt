@@ -1,13 +1,13 @@
-use Rattle.std.proofs.Common.{rules}
+use Rattle.std.proofs.Common.{◌∙◌, refl, rules}
 use Rattle.disk_model.proofs.Calls.{stay_keeps}
 use Rattle.block_log.specs.Log.{next_in_log}
 use Rattle.recovery.specs.Node.{next_in_chain, logged_in}
-use Rattle.recovery.proofs.merkle_dag.Causes.{unblamed}
+use Rattle.recovery.proofs.merkle_dag.Causes.{blameless, unblamed}
 use Rattle.cli_append.specs.Appending.{Grows}
 use Rattle.cli_append.specs.declared.ending.RunStop.TheVariants as stops
 use Rattle.cli_append.proofs.Loop.{goes_still}
 use Rattle.cli_append.proofs.Turns.{all_appended, unread, stopped_within, refused}
-use Rattle.cli_append.proofs.Causes.{carried}
+use Rattle.cli_append.proofs.Causes.{carried, kept, none_blamed}
 use Rattle.cli_append.proofs.appending.append.Goals as goal
 
 pub returns-in-Ok-Whole-clause-appends : goal.returns-in-Ok-Whole-clause-appends
@@ -70,3 +70,97 @@ pub returns-in-Ok-Refused-clause-untold : goal.returns-in-Ok-Refused-clause-unto
 returns-in-Ok-Refused-clause-untold g c =
     carried _ _ _ _ _ (unblamed _ _ c.in-Ok-Refused.ensures.untold) c.refuse.ensures.untold
     (λ blames. blames) (λ blames. blames)
+
+pub returns-in-Ok-Whole-clause-unreadable : goal.returns-in-Ok-Whole-clause-unreadable
+returns-in-Ok-Whole-clause-unreadable g c =
+    blameless _ _ (unblamed _ _ c.in-Ok-Whole.ensures.unreadable)
+
+pub returns-in-Ok-Whole-clause-disk_fault : goal.returns-in-Ok-Whole-clause-disk_fault
+returns-in-Ok-Whole-clause-disk_fault g c =
+    blameless _ _ (unblamed _ _ c.in-Ok-Whole.ensures.disk_fault)
+
+pub returns-in-Ok-Whole-clause-scratch_fault : goal.returns-in-Ok-Whole-clause-scratch_fault
+returns-in-Ok-Whole-clause-scratch_fault g c =
+    blameless _ _ (unblamed _ _ c.in-Ok-Whole.ensures.scratch_fault)
+
+pub returns-in-Ok-Whole-clause-untold : goal.returns-in-Ok-Whole-clause-untold
+returns-in-Ok-Whole-clause-untold g c =
+    blameless _ _ (unblamed _ _ c.in-Ok-Whole.ensures.untold)
+
+pub returns-in-Ok-Refused-clause-unreadable : goal.returns-in-Ok-Refused-clause-unreadable
+returns-in-Ok-Refused-clause-unreadable g c =
+    none_blamed _ _ _ (unblamed _ _ c.in-Ok-Refused.ensures.unreadable) c.refuse.ensures.reads
+
+pub returns-in-Ok-Refused-clause-disk_fault : goal.returns-in-Ok-Refused-clause-disk_fault
+returns-in-Ok-Refused-clause-disk_fault g c =
+    none_blamed _ _ _ (c.refuse.ensures.disk.faults ∙ unblamed _ _ c.in-Ok-Refused.ensures.disk_fault) c.refuse.ensures.writes
+
+pub returns-in-Ok-Refused-clause-scratch_fault : goal.returns-in-Ok-Refused-clause-scratch_fault
+returns-in-Ok-Refused-clause-scratch_fault g c =
+    none_blamed _ _ _ (unblamed _ _ c.in-Ok-Refused.ensures.scratch_fault) c.refuse.ensures.keeps
+
+pub returns-in-Err-Fault-clause-unreadable : goal.returns-in-Err-Fault-clause-unreadable
+returns-in-Err-Fault-clause-unreadable g c =
+    kept _ _ _ _ _ refl
+    (rw c.in-Err-Fault.field-0-is at c.in-Err-Fault.ensures.unreadable)
+    (λ blames. refl) (λ blames. refl)
+
+pub returns-in-Err-Fault-clause-disk_fault : goal.returns-in-Err-Fault-clause-disk_fault
+returns-in-Err-Fault-clause-disk_fault g c =
+    kept _ _ _ _ _ refl
+    (rw c.in-Err-Fault.field-0-is at c.in-Err-Fault.ensures.disk_fault)
+    (λ blames. absurd (cc blames)) (λ blames. absurd (cc blames))
+
+pub returns-in-Err-Fault-clause-scratch_fault : goal.returns-in-Err-Fault-clause-scratch_fault
+returns-in-Err-Fault-clause-scratch_fault g c =
+    kept _ _ _ _ _ refl
+    (rw c.in-Err-Fault.field-0-is at c.in-Err-Fault.ensures.scratch_fault)
+    (λ blames. absurd (cc blames)) (λ blames. absurd (cc blames))
+
+pub returns-in-Err-Fault-clause-untold : goal.returns-in-Err-Fault-clause-untold
+returns-in-Err-Fault-clause-untold g c =
+    kept _ _ _ _ _ refl
+    (rw c.in-Err-Fault.field-0-is at c.in-Err-Fault.ensures.untold)
+    (λ blames. absurd (cc blames)) (λ blames. absurd (cc blames))
+
+pub returns-in-Err-Memory-clause-unreadable : goal.returns-in-Err-Memory-clause-unreadable
+returns-in-Err-Memory-clause-unreadable g c =
+    kept _ _ _ _ _ refl
+    (rw c.in-Err-Memory.field-0-is at c.in-Err-Memory.ensures.unreadable)
+    (λ blames. absurd (cc blames)) (λ blames. absurd (cc blames))
+
+pub returns-in-Err-Memory-clause-disk_fault : goal.returns-in-Err-Memory-clause-disk_fault
+returns-in-Err-Memory-clause-disk_fault g c =
+    kept _ _ _ _ _ refl
+    (rw c.in-Err-Memory.field-0-is at c.in-Err-Memory.ensures.disk_fault)
+    (λ blames. absurd (cc blames)) (λ blames. absurd (cc blames))
+
+pub returns-in-Err-Memory-clause-scratch_fault : goal.returns-in-Err-Memory-clause-scratch_fault
+returns-in-Err-Memory-clause-scratch_fault g c =
+    kept _ _ _ _ _ refl
+    (rw c.in-Err-Memory.field-0-is at c.in-Err-Memory.ensures.scratch_fault)
+    (λ blames. absurd (cc blames)) (λ blames. absurd (cc blames))
+
+pub returns-in-Err-Memory-clause-untold : goal.returns-in-Err-Memory-clause-untold
+returns-in-Err-Memory-clause-untold g c =
+    kept _ _ _ _ _ refl
+    (rw c.in-Err-Memory.field-0-is at c.in-Err-Memory.ensures.untold)
+    (λ blames. absurd (cc blames)) (λ blames. absurd (cc blames))
+
+pub returns-in-Err-Taker-clause-disk_fault : goal.returns-in-Err-Taker-clause-disk_fault
+returns-in-Err-Taker-clause-disk_fault g c =
+    kept _ _ _ _ _ refl
+    (rw c.in-Err-Taker.field-0-is at c.in-Err-Taker.ensures.disk_fault)
+    (λ blames. cc blames) (λ blames. cc blames)
+
+pub returns-in-Err-Taker-clause-scratch_fault : goal.returns-in-Err-Taker-clause-scratch_fault
+returns-in-Err-Taker-clause-scratch_fault g c =
+    kept _ _ _ _ _ refl
+    (rw c.in-Err-Taker.field-0-is at c.in-Err-Taker.ensures.scratch_fault)
+    (λ blames. cc blames) (λ blames. cc blames)
+
+pub returns-in-Err-Taker-clause-untold : goal.returns-in-Err-Taker-clause-untold
+returns-in-Err-Taker-clause-untold g c =
+    kept _ _ _ _ _ refl
+    (rw c.in-Err-Taker.field-0-is at c.in-Err-Taker.ensures.untold)
+    (λ blames. cc blames) (λ blames. cc blames)

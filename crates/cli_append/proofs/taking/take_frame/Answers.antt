@@ -2,7 +2,7 @@ use Rattle.std.proofs.Common.{◌∙◌, refl}
 use Rattle.block_codec.specs.Reading.{block_in}
 use Rattle.recovery.specs.chain_replay.Judging.{judgement_of}
 use Rattle.recovery.specs.Node.{next_in_chain, stored_placement, logged_in}
-use Rattle.cli_append.proofs.Causes.{carried, kept}
+use Rattle.cli_append.proofs.Causes.{carried, kept, none_blamed}
 use Rattle.cli_append.proofs.Frames.{takes_whole, takes_part, takes_none, takes_refusal}
 use Rattle.cli_append.proofs.Frames.{images_told}
 use Rattle.cli_append.proofs.ByLog.{log_taken, log_told}
@@ -178,3 +178,73 @@ returns-in-Ok-appended_line-clause-scratch_fault g c =
       failed = λ both. cause.failed cc;
       told = λ differ. absurd (cause.told differ);
     }
+
+pub returns-in-Ok-clause-disk_fault : goal.returns-in-Ok-clause-disk_fault
+returns-in-Ok-clause-disk_fault g c =
+    kept _ _ _ _ _ refl c.in-Ok.ensures.disk_cause (λ blames. absurd blames)
+    (λ blames. absurd (cc blames))
+
+pub returns-in-Ok-clause-scratch_fault : goal.returns-in-Ok-clause-scratch_fault
+returns-in-Ok-clause-scratch_fault g c =
+    kept _ _ _ _ _ refl c.in-Ok.ensures.scratch.cause (λ blames. absurd blames)
+    (λ blames. absurd (cc blames))
+
+pub returns-in-Ok-clause-untold : goal.returns-in-Ok-clause-untold
+returns-in-Ok-clause-untold g c =
+    none_blamed _ _ _ c.append.ensures.wire.faults (λ blames. absurd (cc blames))
+
+pub returns-in-Refused-clause-disk_fault : goal.returns-in-Refused-clause-disk_fault
+returns-in-Refused-clause-disk_fault g c =
+    let cause = rw c.in-Refused.is at c.in-Err.ensures.disk_cause in
+    kept _ _ _ _ _ refl cause (λ blames. absurd (cc blames)) (λ blames. absurd (cc blames))
+
+pub returns-in-Refused-clause-scratch_fault : goal.returns-in-Refused-clause-scratch_fault
+returns-in-Refused-clause-scratch_fault g c =
+    let cause = rw c.in-Refused.is at c.in-Err.ensures.scratch.cause in
+    kept _ _ _ _ _ refl cause (λ blames. absurd (cc blames)) (λ blames. absurd (cc blames))
+
+pub returns-in-Refused-clause-untold : goal.returns-in-Refused-clause-untold
+returns-in-Refused-clause-untold g c =
+    none_blamed _ _ _ c.append.ensures.wire.faults (λ blames. absurd (cc blames))
+
+pub returns-in-DiskFault-clause-disk_fault : goal.returns-in-DiskFault-clause-disk_fault
+returns-in-DiskFault-clause-disk_fault g c =
+    let cause = rw c.in-DiskFault.is at c.in-Err.ensures.disk_cause in
+    kept _ _ _ _ _ refl cause (λ blames. refl) (λ blames. refl)
+
+pub returns-in-DiskFault-clause-scratch_fault : goal.returns-in-DiskFault-clause-scratch_fault
+returns-in-DiskFault-clause-scratch_fault g c =
+    let cause = rw c.in-DiskFault.is at c.in-Err.ensures.scratch.cause in
+    kept _ _ _ _ _ refl cause (λ blames. absurd (cc blames)) (λ blames. absurd (cc blames))
+
+pub returns-in-DiskFault-clause-untold : goal.returns-in-DiskFault-clause-untold
+returns-in-DiskFault-clause-untold g c =
+    none_blamed _ _ _ c.append.ensures.wire.faults (λ blames. absurd (cc blames))
+
+pub returns-in-ScratchFault-clause-disk_fault : goal.returns-in-ScratchFault-clause-disk_fault
+returns-in-ScratchFault-clause-disk_fault g c =
+    let cause = rw c.in-ScratchFault.is at c.in-Err.ensures.disk_cause in
+    kept _ _ _ _ _ refl cause (λ blames. absurd (cc blames)) (λ blames. absurd (cc blames))
+
+pub returns-in-ScratchFault-clause-scratch_fault : goal.returns-in-ScratchFault-clause-scratch_fault
+returns-in-ScratchFault-clause-scratch_fault g c =
+    let cause = rw c.in-ScratchFault.is at c.in-Err.ensures.scratch.cause in
+    kept _ _ _ _ _ refl cause (λ blames. refl) (λ blames. refl)
+
+pub returns-in-ScratchFault-clause-untold : goal.returns-in-ScratchFault-clause-untold
+returns-in-ScratchFault-clause-untold g c =
+    none_blamed _ _ _ c.append.ensures.wire.faults (λ blames. absurd (cc blames))
+
+pub returns-clause-disk_fault : goal.returns-clause-disk_fault
+returns-clause-disk_fault g c =
+    let cause = rw c.in-Memory.is at c.in-Err.ensures.disk_cause in
+    kept _ _ _ _ _ refl cause (λ blames. absurd (cc blames)) (λ blames. absurd (cc blames))
+
+pub returns-clause-scratch_fault : goal.returns-clause-scratch_fault
+returns-clause-scratch_fault g c =
+    let cause = rw c.in-Memory.is at c.in-Err.ensures.scratch.cause in
+    kept _ _ _ _ _ refl cause (λ blames. absurd (cc blames)) (λ blames. absurd (cc blames))
+
+pub returns-clause-untold : goal.returns-clause-untold
+returns-clause-untold g c =
+    none_blamed _ _ _ c.append.ensures.wire.faults (λ blames. absurd (cc blames))
