@@ -44,48 +44,60 @@ def edge_edits():
     return {edit.removesuffix(".edit"): f"{folder}/{edit}" for edit in edits}
 
 
+def must_fail_edits(crate):
+    """The edits of a crate that the gate tries: their paths."""
+    folder = f"{TOP}/crates/{crate}/must-fail"
+    names = os.listdir(folder) if os.path.isdir(folder) else []
+    return sorted(f"{folder}/{name}" for name in names if name.endswith(".edit"))
+
+
+def paths_of(crate):
+    """The paths of the edits of a crate that the gate doesn't try."""
+    return [f"{TOP}/{BODIES}/{crate}/{name}" for name in edits_of(crate)]
+
+
 def edited_file(edit, crate):
     """The file of a crate that an edit names, and what it makes of it, where it changes one alone."""
-    with open(edit, encoding="utf-8") as lines:
-        [file] = [line.split()[1] for line in lines if line.startswith("file:")]
-    path = f"{crate}/{file}"
-    with open(path, encoding="utf-8") as file:
-        before = file.read()
-    try:
-        apply(edit, crate)
-        with open(path, encoding="utf-8") as file:
-            return path, file.read()
-    finally:
-        with open(path, "w", encoding="utf-8") as file:
-            file.write(before)
+    [(file, text)] = edited_texts(edit, crate).items()
+    return f"{crate}/{file}", text
 
 
 def apply(edit, crate):
-    """Makes the changes of an edit in the folder of a crate: of the file that it names, each `old` text,
+    """Makes the changes of an edit in the folder of a crate."""
+    for file, text in edited_texts(edit, crate).items():
+        with open(f"{crate}/{file}", "w", encoding="utf-8") as changed:
+            changed.write(text)
+
+
+def edited_texts(edit, crate):
+    """What an edit makes of files of a crate, by their paths in its folder: of the file that it names, each `old` text,
     which must stand there once, becomes the `new` one."""
-    path = old = None
-    changes = 0
+    file, old, texts = None, None, {}
     with open(edit, encoding="utf-8") as lines:
         for line in lines:
             word, _, text = line.rstrip("\n").partition(":")
             text = text.removeprefix(" ")
             if word == "file":
-                path = f"{crate}/{text}"
+                file = text
             elif word == "old":
                 old = text
             elif word == "new":
-                replace_once(edit, path, old, text)
-                changes += 1
-    if not changes:
+                texts[file] = replaced_once(edit, texts.get(file) or text_of(edit, crate, file), old, text)
+    if not texts:
         raise BadEdit(f"{edit} changes nothing")
+    return texts
 
 
-def replace_once(edit, path, old, new):
-    if not path or not old or old == new:
-        raise BadEdit(f"{edit} has a `new` without a `file`, without an `old`, or the same as the `old`")
-    with open(path, encoding="utf-8") as file:
-        content = file.read()
-    if content.count(old) != 1:
-        raise BadEdit(f"{edit}: `{old}` stands {content.count(old)} times in {path}")
-    with open(path, "w", encoding="utf-8") as file:
-        file.write(content.replace(old, new))
+def text_of(edit, crate, file):
+    if not file or not os.path.isfile(f"{crate}/{file}"):
+        raise BadEdit(f"{edit}: there is no file {file}")
+    with open(f"{crate}/{file}", encoding="utf-8") as text:
+        return text.read()
+
+
+def replaced_once(edit, text, old, new):
+    if not old or old == new:
+        raise BadEdit(f"{edit} has a `new` without an `old`, or the same as the `old`")
+    if text.count(old) != 1:
+        raise BadEdit(f"{edit}: `{old}` stands {text.count(old)} times in its file")
+    return text.replace(old, new)
