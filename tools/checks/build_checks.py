@@ -10,6 +10,7 @@ import stat
 import subprocess
 import time
 
+from checks.limits import by_clock
 from checks.program_cases import GENERATED
 from lineage.lineage_build import CRATE, Proofs, crates_below
 from lineage.statuses import NOT_BUILT, NOT_INSTALLED, NOT_PROVED, USAGE
@@ -55,7 +56,7 @@ case $(cat "$3") in module*) cp FOLDER/unproved "$2" ;; *) exit 1 ;; esac
 PROVING = ["all check", "run -- scan hist raw/a 0", "version"]
 BUILDING = ["try", "doc", "clang", "link", "version"]
 GEN = ["gen", "1", "0"]
-# How long a run may take, and how often it is looked how far one is, in seconds.
+# How many seconds of a processor a run may take, and how often it is looked how far one is.
 RUN_LIMIT = 60
 PERIOD = 0.1
 # The status of a run that was asked to end.
@@ -200,9 +201,9 @@ def builds_that_end(clone):
     clone.checks.holds(f"{said} says that it waits", "waiting for another build to end" in said[1])
     os.remove(hangs)
     first.terminate()
-    clone.checks.same("the status of a build that is ended", first.wait(RUN_LIMIT), ENDED)
+    clone.checks.same("the status of a build that is ended", first.wait(by_clock(RUN_LIMIT)), ENDED)
     clone.checks.holds("the toolchain is ended with it", not os.path.exists(f"/proc/{started.strip()}"))
-    clone.checks.same("the status of one that waited", second.wait(RUN_LIMIT), 0)
+    clone.checks.same("the status of one that waited", second.wait(by_clock(RUN_LIMIT)), 0)
     left = sorted(os.listdir(f"{clone.tree}/out/unproved"))
     clone.checks.same("what builds leave", left, ["lineage", "lineage.built", "lock"])
 

@@ -11,9 +11,10 @@ import subprocess
 import tempfile
 
 from c_builds import built_library
+from checks.limits import by_clock, limited, status_of
 from checks.log_runs import LOG, environment
 
-# How long a run may take, in seconds.
+# How many seconds of a processor a run may take.
 RUN_LIMIT = 60
 SYNCS = ("fsync", "fdatasync")
 # Flags of `open`.
@@ -101,7 +102,7 @@ class Disk:
 
 
 class Watched:
-    """A program that is run so, each run for so many seconds at most."""
+    """A program that is run so, each run for so many seconds of a processor at most."""
 
     def __init__(self, program, shim, limit=RUN_LIMIT):
         self.program = program
@@ -150,8 +151,8 @@ class Watched:
             put(os.path.join(folder, LOG), log)
             words = [self.program, *words.split()]
             ran = subprocess.run(
-                words, cwd=folder, input=source, stdout=subprocess.PIPE, timeout=RUN_LIMIT, check=False,
-                env=environment(),
+                words, cwd=folder, input=source, stdout=subprocess.PIPE, check=False, env=environment(),
+                **limited(RUN_LIMIT),
             )
             return ran.stdout.decode("latin-1"), ran.returncode, get(os.path.join(folder, LOG))
 
@@ -165,12 +166,11 @@ class Watched:
                 stdout=subprocess.PIPE,
                 stderr=subprocess.DEVNULL,
                 env={**environment(), **settings, "LD_PRELOAD": self.shim},
-                preexec_fn=prepare,
-                timeout=self.limit,
+                **limited(self.limit, prepare),
             )
         except subprocess.TimeoutExpired:
-            return "", f"none within {self.limit} seconds"
-        return ran.stdout.decode("latin-1"), ran.returncode
+            return "", f"none within {by_clock(self.limit)} seconds"
+        return ran.stdout.decode("latin-1"), status_of(ran, self.limit)
 
 
 def offset_of(file):

@@ -1,7 +1,6 @@
 """Checks of the lines that no contract reaches: what the built program does with a real disk, its streams and its
 scratch file.
 """
-from checks import disk_calls
 from checks.append_pairs import pairs_in_gate
 from checks.edge_calls import failing_calls, limit_of_a_file, log_made_meanwhile, no_memory, no_random_bytes
 from checks.edge_calls import order_of_calls, order_of_long_runs, pipe_for_log, rest_of_input
@@ -21,10 +20,3 @@ SCRATCH_PARTS = [
     scratch_calls,
 ]
 PARTS = LOG_PARTS + SCRATCH_PARTS
-
-
-def check(checks, program, folder):
-    """Makes all these checks of a program; the folder is for what is built for them."""
-    watched = disk_calls.Watched(program, disk_calls.build(folder))
-    for part in PARTS:
-        part(checks, watched)

@@ -17,6 +17,7 @@ import threading
 from cases.block_files import block_file, sets
 from cases.log_cases import DONE, REFUSED, frames_of, log_of
 from checks import log_runs
+from checks.limits import by_clock, limited
 
 SEED = 6
 FOLLOWERS = 3
@@ -25,7 +26,8 @@ BLOCKS = 150
 # A follower must be at the end after so many runs, of which the first ones are killed, and the next one is cut.
 RUNS, KILLED = 12, 6
 TOPIC = "frames"
-LIMIT = 60
+# How long one waits for a broker and a reader, which wait for each other.
+LIMIT = by_clock(60)
 ACKNOWLEDGED = re.compile(r"(?:block|known) (\d+)\b")
 
 
@@ -171,7 +173,7 @@ def follow_all(checks, program, topic, name, roots, log):
 def leader(checks, program, file):
     """What `root` of each block tells, by the lines of the leader's `append`."""
     with tempfile.TemporaryDirectory() as folder:
-        streams = {"input": file, "stdout": subprocess.PIPE, "timeout": log_runs.RUN_LIMIT}
+        streams = {"input": file, "stdout": subprocess.PIPE, **limited(log_runs.RUN_LIMIT)}
         ran = subprocess.run([program, "append"], cwd=folder, **streams)
         lines = ran.stdout.decode("ascii").splitlines()
         checks.same("the leader", (len(lines), ran.returncode), (BLOCKS, DONE))

@@ -10,14 +10,15 @@ import subprocess
 from cases import block_files
 from cases.block_files import sets
 from cases.log_cases import FIRST_GATE, HEAD, MARK, OPEN
+from checks.limits import by_clock, limited
 
 LOG = "chain.log"
 # The name of the scratch file, and the variable that names its folder; else that is the present one.
 SCRATCH = "chain.scratch"
 SCRATCH_FOLDER = "TMPDIR"
-# How long a run may take, and how long a line is waited for, in seconds.
+# How many seconds of a processor a run may take, and how long a line is waited for.
 RUN_LIMIT = 600
-LINE_LIMIT = 60
+LINE_LIMIT = by_clock(60)
 # What stands for a root that is left out.
 NO_ROOT = bytes(32).hex()
 
@@ -58,7 +59,7 @@ def read_log(folder):
 def store(program, folder, file, command="append"):
     """Runs a command that stores blocks over the bytes of a file: what it told, and its exit status."""
     streams = {"input": file, "stdout": subprocess.PIPE}
-    ran = subprocess.run([program, command], cwd=folder, timeout=RUN_LIMIT, env=environment(), **streams)
+    ran = subprocess.run([program, command], cwd=folder, env=environment(), **limited(RUN_LIMIT), **streams)
     return without_roots(ran.stdout.decode("ascii")), ran.returncode
 
 
@@ -86,8 +87,8 @@ def ask(program, folder, *words):
         cwd=folder,
         stdin=subprocess.DEVNULL,
         stdout=subprocess.PIPE,
-        timeout=RUN_LIMIT,
         env=environment(),
+        **limited(RUN_LIMIT),
     )
     return ran.stdout.decode("ascii"), ran.returncode
 

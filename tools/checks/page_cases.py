@@ -18,12 +18,14 @@ from cases.forged_proofs import BLOCK_DIGEST, HEAD
 from cases.light_cases import frame
 from cases.proof_cases import recorded_cases
 from cases.root_cases import History
+from checks.limits import limited
 
 # The blocks and the seeds of the chains whose proofs are changed.
 CHAINS = [(30, 7), (45, 11)]
 # Of so many changed proofs in turn, which sort each is of.
 OF_ANSWERS, OF_TRACES, OF_RANGES, OF_LIGHTS = DrawnAnswers(), Traces(), Ranges(), Lights()
 TURN = [OF_ANSWERS, OF_TRACES, OF_RANGES, OF_ANSWERS, OF_TRACES, OF_RANGES, OF_ANSWERS, OF_LIGHTS]
+# How many seconds of a processor a run may take.
 LIMIT = 300
 # What the runs of each command must come to, so that none of it is left untried: each check that refuses, each fault of
 # an input, and each answer.
@@ -114,7 +116,7 @@ def asked(program, run):
         told, status = wanted_of(run.words, run.source)
     else:
         words = [word.encode() for word in run.words]
-        ran = subprocess.run([program, *words], input=run.source, capture_output=True, timeout=LIMIT)
+        ran = subprocess.run([program, *words], input=run.source, capture_output=True, **limited(LIMIT))
         told, status = ran.stdout, ran.returncode
     return told.decode("ascii"), status
 

@@ -14,6 +14,7 @@ import shutil
 import subprocess
 import tempfile
 
+from checks.limits import limited
 from places import TOP
 
 PAGES = ["README.md", "examples/README.md", "examples/recall.md"]
@@ -27,6 +28,7 @@ COPIED = ["examples"]
 LINKED = ["lineage", "tools", "verifiers"]
 # What stands behind the output of each command, on a line of its own.
 END = "the end of a command of a page"
+# How many seconds of a processor a command of a page may take.
 PAGE_LIMIT = 600
 
 
@@ -67,7 +69,7 @@ def ran_page(commands, folder):
         stdin=subprocess.DEVNULL,
         stdout=subprocess.PIPE,
         stderr=subprocess.DEVNULL,
-        timeout=PAGE_LIMIT,
+        **limited(PAGE_LIMIT),
     )
     *outputs, place = ran.stdout.decode(errors="backslashreplace").split(f"{END}\n")
     return outputs, place.rstrip("\n")

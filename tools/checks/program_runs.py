@@ -5,6 +5,7 @@ import resource
 import subprocess
 import tempfile
 
+from checks.limits import by_clock, limited, status_of
 from checks.log_runs import LOG, environment, without_roots
 from places import TOP
 
@@ -34,7 +35,7 @@ class Case:
     after: object = None
     # Whether the roots that it must print are known; where they are not, `NO_ROOT` stands for each.
     has_roots: bool = True
-    # How long it may take.
+    # How many seconds of a processor it may take.
     seconds: int = 120
 
 
@@ -111,15 +112,14 @@ def run_in(folder, program, case):
     source = open_source(case.source)
     streams = {"stdin": source, "stdout": subprocess.PIPE, "stderr": subprocess.DEVNULL}
     try:
-        ran = subprocess.run(
-            words, **streams, cwd=folder, preexec_fn=lambda: limit(case), timeout=case.seconds, env=environment()
-        )
+        limits = limited(case.seconds, lambda: limit(case))
+        ran = subprocess.run(words, **streams, **limits, cwd=folder, env=environment())
     except subprocess.TimeoutExpired:
-        return b"", f"none within {case.seconds} seconds"
+        return b"", f"none within {by_clock(case.seconds)} seconds"
     finally:
         if source != subprocess.DEVNULL:
             source.close()
-    return ran.stdout, ran.returncode
+    return ran.stdout, status_of(ran, case.seconds)
 
 
 def check_case(checks, program, case):

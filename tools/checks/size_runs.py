@@ -147,8 +147,7 @@ def compare_links():
 
 
 def generated_runs():
-    """`gen 2000 7`, what becomes of it, `load 2000 7`, and the same chain as a draft; and `load 20000 7`, which may
-    take a minute."""
+    """`gen 2000 7`, what becomes of it, `load 2000 7`, and the same chain as a draft; and `load 20000 7`."""
     compare_roots()
     compare_links()
     made = Generated(2_000, 7)
@@ -490,10 +489,7 @@ def sum_runs():
     yield from refused_runs(over, "budget 10000001")
 
 
-def size_runs():
-    """All runs."""
-    for part in [
-        generated_runs, level_runs, full_runs, txs_runs, long_block_runs, uses_runs, trace_runs, range_runs,
-        light_runs, limit_runs, deps_runs, args_runs, sum_runs,
-    ]:
-        yield from part()
+PARTS = [
+    generated_runs, level_runs, full_runs, txs_runs, long_block_runs, uses_runs, trace_runs, range_runs, light_runs,
+    limit_runs, deps_runs, args_runs, sum_runs,
+]

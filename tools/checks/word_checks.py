@@ -28,6 +28,7 @@ from cases.block_files import (
     sets,
 )
 from cases.log_cases import CLOSED, CLOSED_HEAD, HEAD, OPEN, SET_FILE, SET_LOG
+from checks.limits import by_clock, limited
 from checks.log_runs import LOG
 from checks.program_cases import EVENING_FRAMES, EVENING_TOLD, MAY_PROOF, PROVE_S1, RAW_A_PROOF, RAW_A_ROOT
 from checks.program_cases import RECALL_FILE, RECALL_LOG, RECALL_ROOTS, SET_LIGHT, SHELF_LIGHT, SHELF_ROOT
@@ -35,6 +36,7 @@ from lineage.statuses import BAD_INPUT, DAMAGED, DISK_FAULT, DONE, NOT_A_LOG, RE
 from lineage.told_statuses import STATUSES
 from places import TOP
 
+# How many seconds of a processor a run may take.
 RUN_LIMIT = 60
 ADD = 'fn add(d: int) { put "bank/n" = get_int("bank/n") + d; }'
 OTHERS = 'fn put_other() { put "shop/n" = 1; }'
@@ -85,7 +87,7 @@ def statuses_in(printed):
 
 def append(wrapper, folder, output, words="append"):
     """What `append` or `follow` of the blocks says, and its status; its standard output is a file or a pipe."""
-    streams = {"input": block_file(BLOCKS), "stdout": output, "stderr": subprocess.PIPE, "timeout": RUN_LIMIT}
+    streams = {"input": block_file(BLOCKS), "stdout": output, "stderr": subprocess.PIPE, **limited(RUN_LIMIT)}
     return subprocess.run([wrapper, words], cwd=folder, **streams)
 
 
@@ -138,7 +140,7 @@ def words_in_both_editions(checks, wrapper):
     said = ""
     with tempfile.TemporaryDirectory() as folder:
         for words, source in [("append", file), ("upgrade", b""), ("append", file)]:
-            streams = {"input": source, "capture_output": True, "timeout": RUN_LIMIT}
+            streams = {"input": source, "capture_output": True, **limited(RUN_LIMIT)}
             said += subprocess.run([wrapper, words], cwd=folder, **streams).stderr.decode()
     lines = [line for line in said.splitlines(True) if " tx " in line]
     checks.same("what is said of sources of both editions", "".join(lines), EDITIONS)
@@ -149,26 +151,27 @@ def output_that_ends(checks, wrapper):
     with tempfile.TemporaryDirectory() as folder:
         blocks = block_file([[sets(f"raw/{n}", n)] for n in range(400)])
         command = f"set -o pipefail; {wrapper} append | head -n 1; exit ${{PIPESTATUS[0]}}"
-        streams = {"input": blocks, "stdout": subprocess.PIPE, "stderr": subprocess.DEVNULL, "timeout": RUN_LIMIT}
+        streams = {"input": blocks, "stdout": subprocess.PIPE, "stderr": subprocess.DEVNULL, **limited(RUN_LIMIT)}
         ran = subprocess.run(["bash", "-c", command], cwd=folder, **streams)
         checks.same("the status where the output ends", ran.returncode, UNTOLD)
         checks.holds("what was told by then", ran.stdout.startswith(b"block 0 rows 1 status 0 root "))
         checks.holds("what was told of is stored", os.path.getsize(f"{folder}/{LOG}") > 0)
 
 
-def on_terminal(wrapper, words, folder, source=subprocess.DEVNULL):
-    """What a terminal shows of a run, and its status."""
+def on_terminal(wrapper, words, folder, source=subprocess.DEVNULL, look=lambda text: None):
+    """What a terminal shows of a run, and its status. What was shown so far is looked at as it comes."""
     shown, terminal = pty.openpty()
     ran = subprocess.Popen([wrapper, *words], cwd=folder, stdin=source, stdout=terminal, stderr=terminal)
     os.close(terminal)
-    text, end = b"", time.monotonic() + RUN_LIMIT
-    while time.monotonic() < end and select.select([shown], [], [], RUN_LIMIT)[0]:
+    text, end = b"", time.monotonic() + by_clock(RUN_LIMIT)
+    while time.monotonic() < end and select.select([shown], [], [], by_clock(RUN_LIMIT))[0]:
         try:
             text += os.read(shown, 1 << 16)
         except OSError:
             break
+        look(text.decode(errors="replace"))
     os.close(shown)
-    return text.decode().replace("\r\n", "\n"), ran.wait(RUN_LIMIT)
+    return text.decode().replace("\r\n", "\n"), ran.wait(by_clock(RUN_LIMIT))
 
 
 def words_on_terminal(checks, wrapper):
@@ -186,17 +189,23 @@ def words_on_terminal(checks, wrapper):
         checks.same("their order", order, sorted(order, key=lambda it: int(it[1])))
 
 
-# What reads a part of the log, waits, and prints in place of the program.
+# What reads a part of the log, waits until it is told to go on, and prints in place of the program.
+GO = "go"
+# How often it is shown how far it is until then.
+TIMES_SHOWN = 2
 SLOW_PROGRAM = f"""\
 #!{sys.executable}
+import os
 import time
 with open("{LOG}", "rb", buffering=0) as log:
     log.read(30_000_000)
-    time.sleep(2.5)
+    while not os.path.exists("{GO}"):
+        time.sleep(0.05)
     log.read()
     time.sleep(1.5)
 print("root 0 " + "0" * 64)
 """
+HOW_FAR = re.compile(r"\r\x1b\[Klineage: read 3\d\.\d of 40\.0 MB of chain\.log, [78]\d percent")
 
 
 def progress_on_terminal(checks, make_tree):
@@ -210,14 +219,19 @@ def progress_on_terminal(checks, make_tree):
         with open(f"{folder}/{LOG}", "wb") as log:
             log.truncate(40_000_000)
         wrapper = f"{make_tree(folder, program)}/lineage"
-        text, status = on_terminal(wrapper, ["root"], folder)
-        line = f"root 0 {'0' * 64}"
-        shown = re.findall(r"\r\x1b\[Klineage: read 3\d\.\d of 40\.0 MB of chain\.log, [78]\d percent", text)
+
+        def go_on(text):
+            if len(HOW_FAR.findall(text)) == TIMES_SHOWN:
+                open(f"{folder}/{GO}", "w").close()
+
+        start = time.monotonic()
+        text, status = on_terminal(wrapper, ["root"], folder, look=go_on)
+        line, shown = f"root 0 {'0' * 64}", HOW_FAR.findall(text)
         checks.same("the status on a terminal", status, DONE)
-        # It is renewed each second of the 2.5 that the program takes there, or more if busy.
-        checks.holds(f"{text!r} shows how far it is", 1 <= len(shown) <= 6)
+        checks.holds(f"{text!r} shows how far it is", len(shown) >= TIMES_SHOWN)
+        checks.holds("it is renewed once in a second at most", len(shown) <= time.monotonic() - start)
         checks.same("what is left on the terminal", re.sub(r"[^\n]*\r\x1b\[K", "", text), f"{line}\n")
-        ran = subprocess.run([wrapper, "root"], cwd=folder, capture_output=True, text=True, timeout=RUN_LIMIT)
+        ran = subprocess.run([wrapper, "root"], cwd=folder, capture_output=True, text=True, **limited(RUN_LIMIT))
         checks.same("what is said elsewhere", (ran.stdout, ran.stderr), (f"{line}\n", ""))
 
 
@@ -255,7 +269,7 @@ def exports(checks, wrapper):
             if log is not None:
                 with open(f"{folder}/{LOG}", "wb") as file:
                     file.write(log)
-            ran = subprocess.run([f"{TOP}/tools/export-blocks"], cwd=folder, capture_output=True, timeout=RUN_LIMIT)
+            ran = subprocess.run([f"{TOP}/tools/export-blocks"], cwd=folder, capture_output=True, **limited(RUN_LIMIT))
             name = f"what is exported of {str(log)[:60]}"
             checks.same(name, (ran.stdout, ran.returncode), (blocks, status))
             checks.holds(f"{ran.stderr!r} has {said!r}", said in ran.stderr.decode() and bool(said) == bool(ran.stderr))
@@ -263,7 +277,7 @@ def exports(checks, wrapper):
         with open(f"{folder}/other.log", "wb") as file:
             file.write(RECALL_LOG)
         command = f"{TOP}/tools/export-blocks other.log | {wrapper} append"
-        ran = subprocess.run(["bash", "-c", command], cwd=folder, capture_output=True, timeout=RUN_LIMIT)
+        ran = subprocess.run(["bash", "-c", command], cwd=folder, capture_output=True, **limited(RUN_LIMIT))
         with open(f"{folder}/{LOG}", "rb") as file:
             checks.same("the log of another node", (ran.returncode, file.read()), (DONE, RECALL_LOG))
 
@@ -292,7 +306,7 @@ OTHER_DRAFTS = [
 
 def pack(wrapper, folder, draft, is_pipe):
     """What `pack` prints of a draft, its status, what it says, and whether it took all of its input."""
-    streams = {"stdout": subprocess.PIPE, "stderr": subprocess.PIPE, "timeout": RUN_LIMIT}
+    streams = {"stdout": subprocess.PIPE, "stderr": subprocess.PIPE, **limited(RUN_LIMIT)}
     with tempfile.TemporaryFile() as source:
         source.write(draft)
         source.flush()
@@ -332,7 +346,7 @@ def sources_of_drafts(checks, wrapper):
 def verifier_words(checks, wrapper):
     """The second verifier shows its help and what a proof holds, and says of which question one is."""
     verifier = [sys.executable, f"{TOP}/verifiers/verify.py"]
-    streams = {"capture_output": True, "timeout": RUN_LIMIT}
+    streams = {"capture_output": True, **limited(RUN_LIMIT)}
     ran = subprocess.run([*verifier, "--help"], **streams)
     checks.same("the status of its help", (ran.returncode, ran.stderr), (DONE, b""))
     for form in (b"ROOT KIND KEY BLOCK", b"trace ROOT KEY BLOCK", b"range ROOT KEY FROM TO"):

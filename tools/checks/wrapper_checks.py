@@ -18,6 +18,7 @@ from cases.block_files import (
 from cases.light_cases import frame
 from cases.log_cases import CLOSED, CLOSED_HEAD, HEAD, NOT_A_LOG, OPEN, REFUSED, SET_FILE, SET_LINE, SET_LOG
 from checks import build_checks, disk_calls, page_runs, word_checks
+from checks.limits import by_clock, limited
 from checks.log_runs import LOG
 from checks.program_cases import (
     CASES, EVENING_FRAMES, LOT, MAY_PROOF, NO_LIGHT, OTHER_DIGEST, PART, RAW_A_PROOF, RAW_A_ROOT, RECALL_FILE,
@@ -27,7 +28,7 @@ from checks.program_cases import (
 from checks.program_runs import TOP, check_case, take_rights
 from lineage import commands, lineage_input, lineage_messages, statuses
 
-# How long a run may take, and how long one waits for another, in seconds.
+# How many seconds of a processor a run may take, and how long one waits for another.
 RUN_LIMIT = 60
 PAUSE = 1
 QUIET = {"stdin": subprocess.DEVNULL, "stdout": subprocess.DEVNULL, "stderr": subprocess.DEVNULL}
@@ -246,7 +247,7 @@ def can_be_wrapped(case):
 
 def run(program, words, source, folder):
     """What is printed, the exit status, and what is said, over an input that is a pipe or a file."""
-    streams = {"stdout": subprocess.PIPE, "stderr": subprocess.PIPE, "timeout": RUN_LIMIT}
+    streams = {"stdout": subprocess.PIPE, "stderr": subprocess.PIPE, **limited(RUN_LIMIT)}
     how = {"stdin": source} if hasattr(source, "fileno") else {"input": source}
     ran = subprocess.run([program, *words.split()], cwd=folder, **how, **streams)
     return ran.stdout, ran.returncode, ran.stderr.decode()
@@ -287,7 +288,7 @@ def pipes(checks, wrapper):
         checks.same("a line while the pipe is open", ran.stdout.readline().decode(), SET_LINE)
         ran.stdin.write(RECALL_FILE)
         ran.stdin.flush()
-        checks.same("a frame is refused while the pipe is open", ran.wait(RUN_LIMIT), REFUSED)
+        checks.same("a frame is refused while the pipe is open", ran.wait(by_clock(RUN_LIMIT)), REFUSED)
         told = ran.stderr.read().decode()
         cause = "a frame is refused; frames count from 0: the chain has another block of this number"
         checks.holds(f"{told!r} has {cause!r}", cause in told)
@@ -296,7 +297,7 @@ def pipes(checks, wrapper):
         with open(os.path.join(folder, LOG), "wb") as file:
             file.write(b"hello")
         ran = subprocess.Popen([wrapper, "append"], cwd=folder, **streams)
-        checks.same("no log, and a pipe that stays open", ran.wait(RUN_LIMIT), NOT_A_LOG)
+        checks.same("no log, and a pipe that stays open", ran.wait(by_clock(RUN_LIMIT)), NOT_A_LOG)
         ran.stdin.close()
 
 
@@ -393,7 +394,7 @@ def waiting_for_folder(checks, wrapper, words):
         except subprocess.TimeoutExpired:
             checks.holds("it waits", not os.path.exists(os.path.join(folder, LOG)))
         os.close(held)
-        checks.same("and then goes on", waiting.wait(RUN_LIMIT), 0)
+        checks.same("and then goes on", waiting.wait(by_clock(RUN_LIMIT)), 0)
 
 
 def locked_log(checks):
@@ -575,23 +576,34 @@ def pages(checks, tree):
         checks.same(line, False, True)
 
 
-def check(checks, program, folder):
-    """Makes all these checks of a program; the folder is for a tree of its own."""
-    tree = make_tree(folder, program)
-    wrapper = f"{tree}/lineage"
+class Wrapped:
+    """./lineage over a program, in a tree of its own, which is made in a folder."""
+
+    def __init__(self, program, folder):
+        self.program, self.folder, self.tree = program, folder, make_tree(folder, program)
+        self.wrapper = f"{self.tree}/lineage"
+
+
+def wrapped_cases(checks, it):
     for case in filter(can_be_wrapped, CASES):
-        check_case(checks, wrapper, case)
-    what_is_said(checks, wrapper, program)
-    pipes(checks, wrapper)
-    long_pipe(checks, wrapper)
-    what_of_the_disk(checks, wrapper)
-    what_of_rights(checks)
-    lock(checks, wrapper)
-    locked_log(checks)
-    locked_append(checks, wrapper)
-    zeroed_log(checks, wrapper)
-    word_checks.check(checks, wrapper, make_tree)
-    listed_commands(checks, program)
-    help_texts(checks, wrapper)
-    pages(checks, tree)
-    build_checks.check(checks, tree, folder)
+        check_case(checks, it.wrapper, case)
+
+
+# What the checks of each part are, by its name.
+PARTS = {
+    "wrapped_cases": wrapped_cases,
+    "what_is_said": lambda checks, it: what_is_said(checks, it.wrapper, it.program),
+    "pipes": lambda checks, it: pipes(checks, it.wrapper),
+    "long_pipe": lambda checks, it: long_pipe(checks, it.wrapper),
+    "what_of_the_disk": lambda checks, it: what_of_the_disk(checks, it.wrapper),
+    "what_of_rights": lambda checks, it: what_of_rights(checks),
+    "waiting": lambda checks, it: lock(checks, it.wrapper),
+    "locked_log": lambda checks, it: locked_log(checks),
+    "locked_append": lambda checks, it: locked_append(checks, it.wrapper),
+    "zeroed_log": lambda checks, it: zeroed_log(checks, it.wrapper),
+    "said_of_things": lambda checks, it: word_checks.check(checks, it.wrapper, make_tree),
+    "listed_commands": lambda checks, it: listed_commands(checks, it.program),
+    "help_texts": lambda checks, it: help_texts(checks, it.wrapper),
+    "pages": lambda checks, it: pages(checks, it.tree),
+    "builds": lambda checks, it: build_checks.check(checks, it.tree, it.folder),
+}

@@ -99,15 +99,16 @@ def commit():
 
 
 def test(words):
-    """Runs all tests that need no proof over the program that answers."""
-    if words:
-        return wrong_words("--test")
+    """Runs the tests that need no proof over the program that answers: all, or those parts of them that have a word
+    in their name."""
+    if len(words) % 2 or not set(words[::2]) <= {"-k", "--jobs"}:
+        return wrong_words("--test [-k WORD] [--jobs N]")
     program = programs.present() or lineage_build.ensure_program()
     if not program:
         return NOT_BUILT
     if program is not PROVED:
         say("the program is tested as it is built without its proofs, which weren't checked")
-    return subprocess.run([f"{TOP}/tools/checks/run-tests", program.path]).returncode
+    return subprocess.run([f"{TOP}/tools/checks/run-tests", program.path, *words]).returncode
 
 
 def show_help(words):
