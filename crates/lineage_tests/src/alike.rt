@@ -3,14 +3,14 @@
 
 ghost use Rattle.merkle_dag.specs.Lineage.{AgreesWith};
 
-use crate::lineages::{ROOM, chain_of, lineage_of};
+use crate::lineages::{chain_of, device, lineage_of};
 use chain_gen::blocks_of_seed;
 use chain_replay::{Chain, Replay};
-use lc_base::{Answer, Kind, Query, Value};
+use lc_base::{Answer, Kind, Query, TextList, Value};
 use lineage_host::ask;
 use lineage_store::Steps;
 use merkle_dag::Lineage;
-use scratch_model::{MemScratch, Scratch};
+use scratch_model::Scratch;
 use std::alloc::Global;
 
 /// The number of blocks of a chain.
@@ -59,6 +59,24 @@ pub(crate) fn is_same_answer(one: &Answer, other: &Answer) -> bool {
     }
 }
 
+/// Whether a lineage answers a question like this.
+pub(crate) fn tells<S: Scratch>(
+    alloc: Global,
+    lineage: &mut Lineage,
+    scratch: &mut S,
+    query: &Query,
+    wanted: &Answer,
+    steps: &mut Steps,
+) -> bool
+    requires agrees { AgreesWith lineage.old (S.state scratch.old) }
+    ensures agrees { AgreesWith lineage.new (S.state scratch.new) }
+{
+    match ask(alloc, lineage, scratch, query, steps) {
+        Ok(answer) => is_same_answer(&answer, wanted),
+        Err(_) => false,
+    }
+}
+
 /// Whether both answer a question alike.
 fn ask_alike<S: Scratch>(
     alloc: Global,
@@ -70,13 +88,9 @@ fn ask_alike<S: Scratch>(
     requires agrees { AgreesWith lineage.old (S.state scratch.old) }
     ensures agrees { AgreesWith lineage.new (S.state scratch.new) }
 {
-    let mut steps = Steps::new();
-    match (
-        chain.ask(query),
-        ask(alloc, lineage, scratch, query, &mut steps),
-    ) {
-        (Ok(plain), Ok(answer)) => is_same_answer(&plain, &answer),
-        _ => false,
+    match chain.ask(query) {
+        Ok(plain) => tells(alloc, lineage, scratch, query, &plain, &mut Steps::new()),
+        Err(_) => false,
     }
 }
 
@@ -125,17 +139,25 @@ fn tell_rows_alike<S: Scratch>(
     true
 }
 
+/// Whether a lineage of the blocks of a chain has rows, and both answer each question about each
+/// row alike.
+fn tells_alike(alloc: Global, chain: &mut Chain, blocks: &TextList) -> Option<bool> {
+    let mut scratch = device(alloc, &[])?;
+    let mut lineage = lineage_of(alloc, &mut scratch, blocks)?;
+    let has_rows = lineage.row_count() > 0;
+    let alike = tell_rows_alike(alloc, chain, &mut lineage, &mut scratch);
+    lineage.give_up();
+    Some(has_rows && alike)
+}
+
 /// Whether the chain of a seed has rows, and both answer each question about each row alike.
 fn tell_seed_alike(alloc: Global, seed: u32) -> Option<bool> {
     let blocks = blocks_of_seed(alloc, BLOCKS, seed).ok()?;
-    let mut scratch = MemScratch::new(alloc, ROOM, &[]).ok()?;
+    let mut scratch = device(alloc, &[])?;
     let mut plain: Chain = chain_of(alloc, &mut scratch, &blocks)?;
-    let mut lineage = lineage_of(alloc, &mut scratch, &blocks)?;
-    let has_rows = lineage.row_count() > 0;
-    let alike = tell_rows_alike(alloc, &mut plain, &mut lineage, &mut scratch);
-    lineage.give_up();
+    let alike = tells_alike(alloc, &mut plain, &blocks);
     plain.give_up();
-    Some(has_rows && alike)
+    alike
 }
 
 #[test]

@@ -2,13 +2,12 @@
 
 ghost use Rattle.std.specs.Prelude.{◌≡◌, ◌+◌, ◌≤◌, length, IfSome};
 ghost use Rattle.block_codec.specs.declared.limits.TheConstants.{MAX_BLOCKS};
-ghost use Rattle.scratch_model.specs.MemScratch.{state_over};
 ghost use Rattle.merkle_dag.specs.Lineage.{AgreesWith};
 
 use block_codec::{Block, FIRST_VERSION, MAX_BLOCKS, NO_PARENT, Tx, TxList, block_digest, encode};
 use chain_pack::pack;
 use chain_replay::{Judged, Marking, Replay};
-use lc_base::{Answer, Key, KeyList, Kind, Query, TextList, Value};
+use lc_base::{Answer, Bytes, Digest, Key, KeyList, Kind, Memory, Query, TextList, Value};
 use lc_io::Room;
 use lineage_host::ask;
 use lineage_store::Steps;
@@ -19,7 +18,7 @@ use scratch_model::{MemScratch, Scratch};
 use std::alloc::Global;
 
 /// Room for the calls of each test.
-pub(crate) const ROOM: Room = Room {
+const ROOM: Room = Room {
     calls: 200_000,
     bytes: 10_000_000,
 };
@@ -34,6 +33,35 @@ pub(crate) fn set(alloc: Global, key: Key, number: i64) -> Option<Tx> {
     })
 }
 
+/// The list of one transaction.
+pub(crate) fn list_of(alloc: Global, tx: Tx) -> Option<TxList> {
+    let mut txs = TxList::new(alloc);
+    match txs.push(tx) {
+        Ok(()) => Some(txs),
+        Err(Memory) => None,
+    }
+}
+
+/// The digest of the last of these blocks.
+fn parent_of_next(blocks: &TextList) -> Digest {
+    match blocks.as_slice().last() {
+        Some(last) => block_digest(last.as_bytes()),
+        None => NO_PARENT,
+    }
+}
+
+/// The bytes of the block after these ones, which has this version and these transactions.
+fn next_block(alloc: Global, blocks: &TextList, version: u8, txs: TxList) -> Option<Bytes> {
+    let number = u32::try_from(blocks.len()).ok()?;
+    let block = Block {
+        version,
+        number,
+        parent: parent_of_next(blocks),
+        txs,
+    };
+    encode(alloc, &block).ok()
+}
+
 /// Adds the bytes of the next block, of the first version, which has these transactions.
 pub(crate) fn add_block(alloc: Global, blocks: &mut TextList, txs: TxList) -> Option<()> {
     add_block_of(alloc, blocks, FIRST_VERSION, txs)
@@ -46,27 +74,15 @@ pub(crate) fn add_block_of(
     version: u8,
     txs: TxList,
 ) -> Option<()> {
-    let number = u32::try_from(blocks.len()).ok()?;
-    let parent = match blocks.as_slice().last() {
-        Some(last) => block_digest(last.as_bytes()),
-        None => NO_PARENT,
-    };
-    let block = Block {
-        version,
-        number,
-        parent,
-        txs,
-    };
-    let bytes = encode(alloc, &block).ok()?;
+    let bytes = next_block(alloc, blocks, version, txs)?;
     blocks.push(bytes).ok()
 }
 
 /// Adds the bytes of the next block, of the first version, which writes its number to the key.
 pub(crate) fn add_numbered_block(alloc: Global, blocks: &mut TextList, key: Key) -> Option<()> {
     let number = i64::try_from(blocks.len()).ok()?;
-    let mut txs = TxList::new(alloc);
-    txs.push(set(alloc, key, number)?).ok()?;
-    add_block(alloc, blocks, txs)
+    let tx = set(alloc, key, number)?;
+    add_block(alloc, blocks, list_of(alloc, tx)?)
 }
 
 /// The chain with one more block; `None` if these bytes aren't its next block, or if the device
@@ -130,24 +146,21 @@ pub(crate) fn lineage_of<S: Scratch>(
     Some(chain.into_lineage())
 }
 
-/// A device in memory, whose calls of these numbers fail, and a lineage of these blocks over it.
-pub(crate) fn lineage_in_memory(
-    alloc: Global,
-    failing: &[u64],
-    blocks: &TextList,
-) -> Option<(MemScratch, Lineage)>
-    ensures agrees { IfSome result (λ made. AgreesWith made.1 (state_over made.0.bytes)) }
-{
-    let mut scratch = MemScratch::new(alloc, ROOM, failing).ok()?;
-    let lineage = lineage_of(alloc, &mut scratch, blocks)?;
-    Some((scratch, lineage))
+/// A device in memory, whose calls of these numbers fail.
+pub(crate) fn device(alloc: Global, failing: &[u64]) -> Option<MemScratch> {
+    MemScratch::new(alloc, ROOM, failing).ok()
 }
 
-/// A device in memory, and a lineage of the blocks of a draft over it.
-pub(crate) fn lineage_of_draft(alloc: Global, draft: &[u8]) -> Option<(MemScratch, Lineage)>
-    ensures agrees { IfSome result (λ made. AgreesWith made.1 (state_over made.0.bytes)) }
+/// A lineage of the blocks of a draft.
+pub(crate) fn lineage_of_draft<S: Scratch>(
+    alloc: Global,
+    scratch: &mut S,
+    draft: &[u8],
+) -> Option<Lineage>
+    ensures agrees { IfSome result (λ lineage. AgreesWith lineage (S.state scratch.new)) }
 {
-    lineage_in_memory(alloc, &[], &pack(alloc, draft, FIRST_VERSION).ok()?)
+    let blocks = pack(alloc, draft, FIRST_VERSION).ok()?;
+    lineage_of(alloc, scratch, &blocks)
 }
 
 /// The int of an answer, and the block of its version.

@@ -3,7 +3,7 @@
 ghost use Rattle.std.specs.Prelude.{◌<◌, ◌≤◌};
 ghost use Rattle.merkle_dag.specs.Lineage.{AgreesWith};
 
-use crate::lineages::{add_numbered_block, int_at, lineage_in_memory};
+use crate::lineages::{add_numbered_block, device, int_at, lineage_of};
 use lc_base::{Key, TextList};
 use lineage_store::Steps;
 use merkle_dag::Lineage;
@@ -78,7 +78,8 @@ pub(crate) fn tells_numbers<S: Scratch>(
 fn reads_each_body_once(alloc: Global) -> Option<bool> {
     let key = Key::new(b"raw/a").ok()?;
     let blocks = numbered_blocks(alloc, key)?;
-    let (mut scratch, mut lineage) = lineage_in_memory(alloc, &[], &blocks)?;
+    let mut scratch = device(alloc, &[])?;
+    let mut lineage = lineage_of(alloc, &mut scratch, &blocks)?;
     let good = tells_numbers(alloc, &mut lineage, &mut scratch, key, QUESTIONS, ASKED);
     lineage.give_up();
     Some(good && scratch.gets() == u64::from(ASKED))

@@ -4,18 +4,17 @@
 //! number. Each path stands beside its question; it was worked out by hand, by the rule that a
 //! version leads on by the highest of its links whose block is after the second one, or by link 0.
 
-ghost use Rattle.std.specs.Prelude.{◌≤◌, IfSome};
-ghost use Rattle.scratch_model.specs.MemScratch.{state_over};
+ghost use Rattle.std.specs.Prelude.{◌≤◌};
 ghost use Rattle.merkle_dag.specs.Lineage.{AgreesWith};
 
-use crate::lineages::{add_block, add_numbered_block, lineage_in_memory};
+use crate::lineages::{add_block, add_numbered_block, device, lineage_of};
 use crate::long::{BLOCKS, numbered_blocks};
 use block_codec::TxList;
 use lc_base::{Key, TextList, Value, Version};
 use lineage_range::range;
 use lineage_store::Steps;
 use merkle_dag::Lineage;
-use scratch_model::{MemScratch, Scratch};
+use scratch_model::Scratch;
 use std::alloc::Global;
 
 /// The key that the blocks write.
@@ -81,64 +80,92 @@ fn far_blocks(alloc: Global) -> Option<TextList> {
     let key = Key::new(KEY).ok()?;
     let mut blocks = TextList::new(alloc);
     for number in 0..FAR_BLOCK + 2 {
-        if number < NEAR_BLOCKS || number >= FAR_BLOCK {
-            add_numbered_block(alloc, &mut blocks, key)?;
+        let added = if number < NEAR_BLOCKS || number >= FAR_BLOCK {
+            add_numbered_block(alloc, &mut blocks, key)
         } else {
-            add_block(alloc, &mut blocks, TxList::new(alloc))?;
-        }
+            add_block(alloc, &mut blocks, TxList::new(alloc))
+        };
+        added?;
     }
     Some(blocks)
 }
 
-/// A lineage of the far chain.
-fn far_lineage(alloc: Global) -> Option<(MemScratch, Lineage)>
-    ensures agrees { IfSome result (λ made. AgreesWith made.1 (state_over made.0.bytes)) }
-{
-    lineage_in_memory(alloc, &[], &far_blocks(alloc)?)
+/// How many versions there are in ranges of a chain, and how many are looked at to find them.
+type Counts = Option<(usize, u64)>;
+
+/// The counts of four ranges of the far chain.
+fn far_counts(alloc: Global) -> Option<[Counts; 4]> {
+    let blocks = far_blocks(alloc)?;
+    let mut scratch = device(alloc, &[])?;
+    let mut lineage = lineage_of(alloc, &mut scratch, &blocks)?;
+    let counts = [
+        counts(alloc, &mut lineage, &mut scratch, KEY, 31, 33),
+        counts(alloc, &mut lineage, &mut scratch, KEY, 0, 63),
+        counts(alloc, &mut lineage, &mut scratch, KEY, 64, 524_286),
+        counts(alloc, &mut lineage, &mut scratch, OTHER_KEY, 0, 524_288),
+    ];
+    lineage.give_up();
+    Some(counts)
 }
 
 #[test]
 fn far_versions_are_found_in_few_steps(rt: HostRuntime) {
-    let alloc = rt.alloc();
-    let Some((mut scratch, mut lineage)) = far_lineage(alloc) else {
-        assert!(rt; false);
-        return;
-    };
-    // Three versions. The path to block 33 is 524288, 524287, 48, 40, 36, 34, 33, and then come 32
-    // and 31.
-    assert!(rt; counts(alloc, &mut lineage, &mut scratch, KEY, 31, 33) == Some((3, 9)));
-    // The path to block 63 is 524288, 524287, 63; then come the 63 versions before that.
-    assert!(rt; counts(alloc, &mut lineage, &mut scratch, KEY, 0, 63) == Some((64, 66)));
-    // The path to block 524286 is the same; its last version is before block 64.
-    assert!(rt; counts(alloc, &mut lineage, &mut scratch, KEY, 64, 524_286) == Some((0, 3)));
-    // A key without versions has no path.
-    assert!(rt; counts(alloc, &mut lineage, &mut scratch, OTHER_KEY, 0, 524_288) == Some((0, 0)));
-    lineage.give_up();
+    let wanted = [
+        // Three versions. The path to block 33 is 524288, 524287, 48, 40, 36, 34, 33, and then come
+        // 32 and 31.
+        Some((3, 9)),
+        // The path to block 63 is 524288, 524287, 63; then come the 63 versions before that.
+        Some((64, 66)),
+        // The path to block 524286 is the same; its last version is before block 64.
+        Some((0, 3)),
+        // A key without versions has no path.
+        Some((0, 0)),
+    ];
+    assert!(rt; far_counts(rt.alloc()) == Some(wanted));
 }
 
-/// A lineage of very many versions.
-fn long_lineage(alloc: Global) -> Option<(MemScratch, Lineage)>
-    ensures agrees { IfSome result (λ made. AgreesWith made.1 (state_over made.0.bytes)) }
-{
-    lineage_in_memory(alloc, &[], &numbered_blocks(alloc, Key::new(KEY).ok()?)?)
+/// The counts of three ranges of very many versions, and how many bodies were read by then.
+#[derive(Clone, Copy)]
+struct LongCounts {
+    last_ten: Counts,
+    gets_for_last_ten: u64,
+    all: Counts,
+    gets_for_all: u64,
+    earlier_ten: Counts,
+}
+
+fn long_counts(alloc: Global) -> Option<LongCounts> {
+    let key = Key::new(KEY).ok()?;
+    let blocks = numbered_blocks(alloc, key)?;
+    let mut scratch = device(alloc, &[])?;
+    let mut lineage = lineage_of(alloc, &mut scratch, &blocks)?;
+    let last_ten = counts(alloc, &mut lineage, &mut scratch, KEY, 65_526, 65_535);
+    let gets_for_last_ten = scratch.gets();
+    let all = counts(alloc, &mut lineage, &mut scratch, KEY, 0, 65_535);
+    let gets_for_all = scratch.gets();
+    let earlier_ten = counts(alloc, &mut lineage, &mut scratch, KEY, 32_246, 32_255);
+    lineage.give_up();
+    Some(LongCounts {
+        last_ten,
+        gets_for_last_ten,
+        all,
+        gets_for_all,
+        earlier_ten,
+    })
 }
 
 #[test]
 fn very_many_versions_are_looked_at_once(rt: HostRuntime) {
-    let alloc = rt.alloc();
-    let Some((mut scratch, mut lineage)) = long_lineage(alloc) else {
+    let Some(counts) = long_counts(rt.alloc()) else {
         assert!(rt; false);
         return;
     };
     // The path to the last version has that one alone. The last ten bodies are at hand.
-    assert!(rt; counts(alloc, &mut lineage, &mut scratch, KEY, 65_526, 65_535) == Some((10, 10)));
-    assert!(rt; scratch.gets() == 0);
-    assert!(rt;
-        counts(alloc, &mut lineage, &mut scratch, KEY, 0, 65_535) == Some((65_536, 65_536))
-    );
-    assert!(rt; scratch.gets() <= u64::from(BLOCKS));
+    assert!(rt; counts.last_ten == Some((10, 10)));
+    assert!(rt; counts.gets_for_last_ten == 0);
+    assert!(rt; counts.all == Some((65_536, 65_536)));
+    assert!(rt; counts.gets_for_all <= u64::from(BLOCKS));
     // The path to block 32255 is 65535, 65534, 65532, 65528, 65520, 65504, 65472, 65408, 65280,
     // 65024, 64512, 63488, 61440, 57344, 49152, 32768, 32256, 32255: 18 versions; then nine more.
-    assert!(rt; counts(alloc, &mut lineage, &mut scratch, KEY, 32_246, 32_255) == Some((10, 27)));
-    lineage.give_up();
+    assert!(rt; counts.earlier_ten == Some((10, 27)));
 }
