@@ -189,7 +189,7 @@ def words_on_terminal(checks, wrapper):
         checks.same("their order", order, sorted(order, key=lambda it: int(it[1])))
 
 
-# What reads a part of the log, waits until it is told to go on, and prints in place of the program.
+# What reads a part of the log, waits until it is told to go on or the log is gone, and prints in place of the program.
 GO = "go"
 # How often it is shown how far it is until then.
 TIMES_SHOWN = 2
@@ -199,7 +199,7 @@ import os
 import time
 with open("{LOG}", "rb", buffering=0) as log:
     log.read(30_000_000)
-    while not os.path.exists("{GO}"):
+    while os.path.exists("{LOG}") and not os.path.exists("{GO}"):
         time.sleep(0.05)
     log.read()
     time.sleep(1.5)
