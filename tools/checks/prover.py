@@ -1,6 +1,6 @@
 """What `rt` has to judge edits by, as the gate does; and what a check of several edits shows of each.
 
-`rt` is a tool whose functions are taken from it as they are: a check of a copy of a crate, and what it says of one edit.
+`rt` is a tool whose functions are taken as they are: a check of a copy of a crate, and what it says of one edit.
 """
 import importlib.machinery
 import importlib.util
@@ -65,7 +65,8 @@ def try_together(crate, texts, edits, kept):
         told = TOLD.match(line)
         if told and (told[3].startswith("error") or told[3].startswith(NOT_PROVED)):
             found = [edit for edit in edits if edit.is_seen_in(told[1], int(told[2]))]
-            if len(found) != 1 or GONE.search(told[3]):
+            if len(found) != 1:
                 return {}
-            seen.setdefault(found[0].path, line)
+            if not GONE.search(told[3]):
+                seen.setdefault(found[0].path, line)
     return seen
