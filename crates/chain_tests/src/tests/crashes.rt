@@ -37,6 +37,29 @@ fn leaves(
     }
 }
 
+/// Crashes: the moment, how many of the bytes that were not synced are kept, whether the disk is cut
+/// to what was synced, and the bytes that are left.
+const CRASHES: [(u64, u64, bool, &[u8]); 14] = [
+    // Before the first call.
+    (0, 0, false, b"ab"),
+    (0, 0, true, b"ab"),
+    // After the first write, of six bytes that are not synced.
+    (1, 0, false, b"......"),
+    (1, 1, false, b"a....."),
+    (1, 5, false, b"abcde."),
+    (1, 6, false, b"abcdef"),
+    (1, 1, true, b"a."),
+    // After the sync.
+    (2, 0, false, b"abcdef"),
+    (2, 0, true, b"abcdef"),
+    // After the second write, and after the line.
+    (3, 0, false, b"abcd..."),
+    (3, 2, false, b"abcdXY."),
+    (3, 2, true, b"abcdXY"),
+    (4, 9, false, b"abcdXYZ"),
+    (4, 0, true, b"abcd.."),
+];
+
 #[test]
 fn crashes_at_each_moment(rt: HostRuntime) {
     let alloc = rt.alloc();
@@ -46,24 +69,12 @@ fn crashes_at_each_moment(rt: HostRuntime) {
     };
     assert!(rt; write_twice(&mut machine) == Ok(()));
     assert!(rt; machine.moment() == 4);
-    // Before the first call.
-    assert!(rt; leaves(alloc, &machine, 0, 0, false, b"ab"));
-    assert!(rt; leaves(alloc, &machine, 0, 0, true, b"ab"));
-    // After the first write, of six bytes that are not synced.
-    assert!(rt; leaves(alloc, &machine, 1, 0, false, b"......"));
-    assert!(rt; leaves(alloc, &machine, 1, 1, false, b"a....."));
-    assert!(rt; leaves(alloc, &machine, 1, 5, false, b"abcde."));
-    assert!(rt; leaves(alloc, &machine, 1, 6, false, b"abcdef"));
-    assert!(rt; leaves(alloc, &machine, 1, 1, true, b"a."));
-    // After the sync.
-    assert!(rt; leaves(alloc, &machine, 2, 0, false, b"abcdef"));
-    assert!(rt; leaves(alloc, &machine, 2, 0, true, b"abcdef"));
-    // After the second write, and after the line.
-    assert!(rt; leaves(alloc, &machine, 3, 0, false, b"abcd..."));
-    assert!(rt; leaves(alloc, &machine, 3, 2, false, b"abcdXY."));
-    assert!(rt; leaves(alloc, &machine, 3, 2, true, b"abcdXY"));
-    assert!(rt; leaves(alloc, &machine, 4, 9, false, b"abcdXYZ"));
-    assert!(rt; leaves(alloc, &machine, 4, 0, true, b"abcd.."));
+    for (moment, keep, short, image) in CRASHES {
+        assert!(rt;
+            leaves(alloc, &machine, moment, keep, short, image),
+            "at moment {moment}"
+        );
+    }
 }
 
 #[test]

@@ -87,10 +87,10 @@ fn write_and_tell<M: Disk + Wire>(machine: &mut M) -> Result<u64, Failed> {
     Ok(before)
 }
 
-/// The length of a disk, and how many bytes were read into the buffer from its fourth on.
-fn read_end<M: Disk>(machine: &mut M, buffer: &mut [u8]) -> Result<(u64, usize), Failed> {
+/// The length of a disk, and how many bytes were read into the buffer from a place.
+fn read_from<M: Disk>(machine: &mut M, at: u64, buffer: &mut [u8]) -> Result<(u64, usize), Failed> {
     let len = machine.len()?;
-    let count = machine.read_at(3, buffer)?;
+    let count = machine.read_at(at, buffer)?;
     Ok((len, count))
 }
 
@@ -99,10 +99,20 @@ fn write_file(rt: &HostRuntime, told: &mut Vec<u8>) -> Result<u64, Failed> {
     write_and_tell(&mut FileMachine::new(rt, FILE, told))
 }
 
-/// Reads the file, as a disk.
-fn read_file(rt: &HostRuntime, buffer: &mut [u8]) -> Result<(u64, usize), Failed> {
+/// Reads a file from a place, as a disk.
+fn read_file(
+    rt: &HostRuntime,
+    name: &str,
+    at: u64,
+    buffer: &mut [u8],
+) -> Result<(u64, usize), Failed> {
     let mut told: Vec<u8> = Vec::new(rt.alloc());
-    read_end(&mut FileMachine::new(rt, FILE, &mut told), buffer)
+    read_from(&mut FileMachine::new(rt, name, &mut told), at, buffer)
+}
+
+/// Whether a file can be removed.
+fn is_removed(rt: &HostRuntime, name: &str) -> bool {
+    fs::remove_file(rt, name).is_ok()
 }
 
 #[test]
@@ -112,17 +122,22 @@ fn edge_of_a_file(rt: HostRuntime) {
     assert!(rt; told.as_slice() == b"line\n".as_slice());
     // Another machine finds just what the first one wrote.
     let mut buffer = [0; 8];
-    assert!(rt; read_file(&rt, &mut buffer) == Ok((7, 4)));
+    assert!(rt; read_file(&rt, FILE, 3, &mut buffer) == Ok((7, 4)));
     assert!(rt; buffer == *b"dxyz\0\0\0\0");
-    assert!(rt; fs::remove_file(&rt, FILE).is_ok());
+    assert!(rt; is_removed(&rt, FILE));
+}
+
+/// What a disk answers that is asked its length, and then is written to.
+fn ask_and_write<M: Disk>(machine: &mut M) -> (Result<u64, Failed>, Result<(), Failed>) {
+    let len = machine.len();
+    (len, machine.write_at(0, b"a"))
 }
 
 #[test]
 fn folder_in_place_of_a_file(rt: HostRuntime) {
     let mut told: Vec<u8> = Vec::new(rt.alloc());
-    let mut machine = FileMachine::new(&rt, ".", &mut told);
-    assert!(rt; machine.len() == Err(Failed));
-    assert!(rt; machine.write_at(0, b"a") == Err(Failed));
+    let answers = ask_and_write(&mut FileMachine::new(&rt, ".", &mut told));
+    assert!(rt; answers == (Err(Failed), Err(Failed)));
 }
 
 /// A file of the current folder, which exists neither before the test nor after it.
@@ -141,8 +156,7 @@ fn make_long_file(rt: &HostRuntime) -> Result<(), Failed> {
 }
 
 /// Writes behind the end of the long file, and then over its last byte; returns its length before.
-fn write_long_file(rt: &HostRuntime, told: &mut Vec<u8>) -> Result<u64, Failed> {
-    let mut machine = FileMachine::new(rt, LONG_FILE, told);
+fn write_past_end<W>(machine: &mut FileMachine<W>) -> Result<u64, Failed> {
     machine.sync()?;
     let before = machine.len()?;
     machine.write_at(LONG_LEN, b"xyz")?;
@@ -152,13 +166,14 @@ fn write_long_file(rt: &HostRuntime, told: &mut Vec<u8>) -> Result<u64, Failed> 
     Ok(before)
 }
 
-/// The length of the long file, and how many bytes were read into the buffer from a place.
+/// Writes the long file, as a disk.
+fn write_long_file(rt: &HostRuntime, told: &mut Vec<u8>) -> Result<u64, Failed> {
+    write_past_end(&mut FileMachine::new(rt, LONG_FILE, told))
+}
+
+/// Reads the long file from a place, as a disk.
 fn read_long_file(rt: &HostRuntime, at: u64, buffer: &mut [u8]) -> Result<(u64, usize), Failed> {
-    let mut told: Vec<u8> = Vec::new(rt.alloc());
-    let mut machine = FileMachine::new(rt, LONG_FILE, &mut told);
-    let len = machine.len()?;
-    let count = machine.read_at(at, buffer)?;
-    Ok((len, count))
+    read_file(rt, LONG_FILE, at, buffer)
 }
 
 #[test]
@@ -171,7 +186,45 @@ fn file_past_four_gigabytes(rt: HostRuntime) {
     assert!(rt; buffer == [b'w', b'x', b'y', b'z', 1, 1]);
     assert!(rt; read_long_file(&rt, SHORT_PLACE, &mut buffer) == Ok((LONG_LEN + 3, 6)));
     assert!(rt; buffer == [0; 6]);
-    assert!(rt; fs::remove_file(&rt, LONG_FILE).is_ok());
+    assert!(rt; is_removed(&rt, LONG_FILE));
+}
+
+/// What two machines over one file answer, in order.
+#[derive(Clone, Copy)]
+struct Locking {
+    sync_of_one: Result<(), Failed>,
+    len_of_other: Result<u64, Failed>,
+    sync_of_other: Result<(), Failed>,
+    write_of_other: Result<(), Failed>,
+    write_of_one: Result<(), Failed>,
+    len_after_write: Result<u64, Failed>,
+    is_removed: bool,
+    sync_after_removal: Result<(), Failed>,
+}
+
+/// What these machines over the file answer, which is removed at last.
+fn lock<W>(rt: &HostRuntime, one: &mut FileMachine<W>, other: &mut FileMachine<W>) -> Locking {
+    Locking {
+        sync_of_one: one.sync(),
+        len_of_other: other.len(),
+        sync_of_other: other.sync(),
+        write_of_other: other.write_at(7, b"!"),
+        write_of_one: one.write_at(7, b"."),
+        len_after_write: other.len(),
+        is_removed: is_removed(rt, FILE),
+        sync_after_removal: one.sync(),
+    }
+}
+
+/// What two machines over the file answer.
+fn lock_file(rt: &HostRuntime) -> Locking {
+    let mut one_told: Vec<u8> = Vec::new(rt.alloc());
+    let mut other_told: Vec<u8> = Vec::new(rt.alloc());
+    lock(
+        rt,
+        &mut FileMachine::new(rt, FILE, &mut one_told),
+        &mut FileMachine::new(rt, FILE, &mut other_told),
+    )
 }
 
 #[test]
@@ -180,18 +233,15 @@ fn lock_of_a_file(rt: HostRuntime) {
     // read.
     let mut told = Vec::new(rt.alloc());
     assert!(rt; write_file(&rt, &mut told) == Ok(0));
-    let mut one_told: Vec<u8> = Vec::new(rt.alloc());
-    let mut other_told: Vec<u8> = Vec::new(rt.alloc());
-    let mut one = FileMachine::new(&rt, FILE, &mut one_told);
-    let mut other = FileMachine::new(&rt, FILE, &mut other_told);
-    assert!(rt; one.sync() == Ok(()));
-    assert!(rt; other.len() == Ok(7));
-    assert!(rt; other.sync() == Err(Failed));
-    assert!(rt; other.write_at(7, b"!") == Err(Failed));
-    assert!(rt; one.write_at(7, b".") == Ok(()));
-    assert!(rt; other.len() == Ok(8));
-    assert!(rt; fs::remove_file(&rt, FILE).is_ok());
+    let locking = lock_file(&rt);
+    assert!(rt; locking.sync_of_one == Ok(()));
+    assert!(rt; locking.len_of_other == Ok(7));
+    assert!(rt; locking.sync_of_other == Err(Failed));
+    assert!(rt; locking.write_of_other == Err(Failed));
+    assert!(rt; locking.write_of_one == Ok(()));
+    assert!(rt; locking.len_after_write == Ok(8));
+    assert!(rt; locking.is_removed);
     // Once the file is removed, nothing is written to it.
-    assert!(rt; one.sync() == Err(Failed));
+    assert!(rt; locking.sync_after_removal == Err(Failed));
     assert!(rt; !fs::exists(&rt, FILE).unwrap_or(true));
 }

@@ -52,27 +52,31 @@ fn set(alloc: Global, count: usize) -> Option<Tx> {
 
 /// A Deploy of a source of `count` bytes.
 fn deploy(alloc: Global, count: usize) -> Option<Tx> {
+    let sender = key()?;
+    let name = name()?;
     let mut source = Vec::new(alloc);
     for _ in 0..count {
         source.push(b'#').ok()?;
     }
     Some(Tx::Deploy {
-        sender: key()?,
-        name: name()?,
+        sender,
+        name,
         source: Bytes::from_vec(source),
     })
 }
 
 /// A Call with `count` arguments and this budget.
 pub(crate) fn call(alloc: Global, count: usize, budget: u32) -> Option<Tx> {
+    let sender = key()?;
+    let name = name()?;
     let mut args = Seq::new(alloc);
     for _ in 0..count {
         args.push(Value::Int(1)).ok()?;
     }
     Some(Tx::Call {
-        sender: key()?,
-        contract: name()?,
-        function: name()?,
+        sender,
+        contract: name,
+        function: name,
         args,
         budget,
     })
@@ -86,8 +90,10 @@ fn length_of(alloc: Global, version: u8, txs: TxList) -> Result<usize, EncodeErr
         parent: NO_PARENT,
         txs,
     };
-    let bytes = encode(alloc, &block)?;
-    Ok(bytes.len())
+    match encode(alloc, &block) {
+        Ok(bytes) => Ok(bytes.len()),
+        Err(error) => Err(error),
+    }
 }
 
 /// Whether `wanted` bytes spell a block of this version and the one transaction, or, if `wanted` is
@@ -138,12 +144,15 @@ fn set_text(alloc: Global, count: usize) -> Option<Tx> {
 
 /// A Call with one argument, a text of `count` bytes.
 fn call_text(alloc: Global, count: usize) -> Option<Tx> {
+    let sender = key()?;
+    let name = name()?;
+    let text = text(alloc, count)?;
     let mut args = Seq::new(alloc);
-    args.push(text(alloc, count)?).ok()?;
+    args.push(text).ok()?;
     Some(Tx::Call {
-        sender: key()?,
-        contract: name()?,
-        function: name()?,
+        sender,
+        contract: name,
+        function: name,
         args,
         budget: 0,
     })
@@ -176,11 +185,16 @@ fn limits_of_texts(rt: HostRuntime) {
     assert!(rt; takes_texts(alloc, SECOND_VERSION, MAX_TEXT_BYTES));
 }
 
+/// Adds a transaction, if there is one.
+pub(crate) fn add(txs: &mut TxList, tx: Option<Tx>) -> Option<()> {
+    txs.push(tx?).ok()
+}
+
 /// A list of `count` Sets.
 fn sets(alloc: Global, count: u16) -> Option<TxList> {
     let mut txs = TxList::new(alloc);
     for _ in 0..count {
-        txs.push(set(alloc, 0)?).ok()?;
+        add(&mut txs, set(alloc, 0))?;
     }
     Some(txs)
 }
@@ -190,9 +204,9 @@ fn sets(alloc: Global, count: u16) -> Option<TxList> {
 fn deploys(alloc: Global, last: usize) -> Option<TxList> {
     let mut txs = TxList::new(alloc);
     for _ in 0..63 {
-        txs.push(deploy(alloc, MAX_SOURCE_BYTES)?).ok()?;
+        add(&mut txs, deploy(alloc, MAX_SOURCE_BYTES))?;
     }
-    txs.push(deploy(alloc, last)?).ok()?;
+    add(&mut txs, deploy(alloc, last))?;
     Some(txs)
 }
 

@@ -7,6 +7,22 @@ use prov_entry::{Header, LinkList, no_uses, write_header};
 use skip_links::links;
 use std::alloc::Global;
 
+/// Whether these bytes are read as a header, with nothing after it.
+fn is_read_as(bytes: &[u8], header: &Header) -> bool {
+    let Ok(view) = read_header(bytes, 0) else {
+        return false;
+    };
+    let fields = view.fields();
+    let read = (fields.key, fields.block, fields.tx, fields.body, view.end());
+    read == (
+        header.key,
+        header.block,
+        header.tx,
+        header.body,
+        bytes.len(),
+    )
+}
+
 /// Whether a header that is written is read again, with nothing after it.
 fn is_read_again(alloc: Global) -> bool {
     let Ok(key) = Key::new(b"raw/c") else {
@@ -21,15 +37,10 @@ fn is_read_again(alloc: Global) -> bool {
         closed_digest: no_uses(),
         links: LinkList::new(alloc),
     };
-    let Ok(bytes) = write_header(alloc, &header) else {
-        return false;
-    };
-    let Ok(view) = read_header(bytes.as_bytes(), 0) else {
-        return false;
-    };
-    let fields = view.fields();
-    let read = (fields.key, fields.block, fields.tx, fields.body, view.end());
-    read == (key, 0, 1, header.body, bytes.len())
+    match write_header(alloc, &header) {
+        Ok(bytes) => is_read_as(bytes.as_bytes(), &header),
+        Err(_) => false,
+    }
 }
 
 #[test]
@@ -52,17 +63,22 @@ fn versions_in(alloc: Global, key: Key, blocks: &[u32]) -> Result<RowList, Memor
     Ok(rows)
 }
 
+/// Whether the links of the version of a key in a block are to these blocks, if these are the rows.
+fn has_links_in(alloc: Global, rows: &[Row], key: &Key, block: u32, wanted: &[u32]) -> bool {
+    match links(alloc, rows, key, block) {
+        Ok(found) => found.as_slice() == wanted,
+        Err(Memory) => false,
+    }
+}
+
 /// Whether the links of the version in a block are to these blocks, if its key has versions in the
 /// blocks 2, 9 and 10.
 fn has_links(alloc: Global, block: u32, wanted: &[u32]) -> bool {
     let Ok(key) = Key::new(b"raw/a") else {
         return false;
     };
-    let Ok(rows) = versions_in(alloc, key, &[2, 9, 10]) else {
-        return false;
-    };
-    match links(alloc, rows.as_slice(), &key, block) {
-        Ok(found) => found.as_slice() == wanted,
+    match versions_in(alloc, key, &[2, 9, 10]) {
+        Ok(rows) => has_links_in(alloc, rows.as_slice(), &key, block, wanted),
         Err(Memory) => false,
     }
 }

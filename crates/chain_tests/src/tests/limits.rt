@@ -5,7 +5,7 @@
 ghost use Rattle.std.specs.Prelude.{◌≡◌, ◌≤◌, true, IfSome};
 ghost use Rattle.block_codec.specs.Spelling.{IsBlock, is_version};
 
-use crate::tests::encoded::call;
+use crate::tests::encoded::{add, call};
 use block_codec::{
     Block, FIRST_VERSION, MAX_BLOCK_BUDGET, MAX_BLOCKS, MAX_CALL_BUDGET, MAX_MARKED_BLOCKS,
     MAX_ROWS_BEFORE_BLOCK, Misplaced, NO_PARENT, Placement, SECOND_VERSION, TxList, decode, encode,
@@ -124,7 +124,7 @@ fn costly_block(alloc: Global, version: u8) -> Option<Block>
 {
     let mut txs = TxList::new(alloc);
     for _ in 0..=MAX_BLOCK_BUDGET / u64::from(MAX_CALL_BUDGET) {
-        txs.push(call(alloc, 0, MAX_CALL_BUDGET)?).ok()?;
+        add(&mut txs, call(alloc, 0, MAX_CALL_BUDGET))?;
     }
     let block = Block {
         version,
@@ -132,8 +132,10 @@ fn costly_block(alloc: Global, version: u8) -> Option<Block>
         parent: NO_PARENT,
         txs,
     };
-    let bytes = encode(alloc, &block).ok()?;
-    decoded(alloc, bytes.as_bytes())
+    match encode(alloc, &block) {
+        Ok(bytes) => decoded(alloc, bytes.as_bytes()),
+        Err(_) => None,
+    }
 }
 
 /// The placement of such a block in a chain that has no block yet and isn't marked.

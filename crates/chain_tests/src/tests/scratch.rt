@@ -23,19 +23,32 @@ fn put_two<S: Scratch>(scratch: &mut S, got: &mut [u8; 3]) -> Result<(u64, u64),
     Ok((first, second))
 }
 
-/// Puts three texts on a device over a file, and gets the last two back, the third one first.
+/// Puts three texts, and gets the last two back, the third one first.
+fn put_three<S: Scratch>(
+    scratch: &mut S,
+    second: &mut [u8; 2],
+    third: &mut [u8; 4],
+) -> Result<(), Failed> {
+    let _first = scratch.put(b"abc")?;
+    let second_place = scratch.put(b"de")?;
+    let third_place = scratch.put(b"fghi")?;
+    scratch.get(third_place, third)?;
+    scratch.get(second_place, second)
+}
+
+/// Does so on a device over a file, which is closed then.
 fn get_later_ones(
     rt: &HostRuntime,
     second: &mut [u8; 2],
     third: &mut [u8; 4],
 ) -> Result<(), Failed> {
-    let mut scratch = FileScratch::new(rt.alloc(), rt, ".").map_err(|_| Failed)?;
-    let _first = scratch.put(b"abc")?;
-    let second_place = scratch.put(b"de")?;
-    let third_place = scratch.put(b"fghi")?;
-    scratch.get(third_place, third)?;
-    scratch.get(second_place, second)?;
-    scratch.close()
+    let Ok(mut scratch) = FileScratch::new(rt.alloc(), rt, ".") else {
+        return Err(Failed);
+    };
+    let done = put_three(&mut scratch, second, third);
+    let closed = scratch.close();
+    done?;
+    closed
 }
 
 #[test]
@@ -82,36 +95,77 @@ fn is_there(rt: &HostRuntime, name: &str) -> bool {
     fs::exists(rt, name).unwrap_or(true)
 }
 
+/// Does so on a device and on one over a file, which is closed then. Whether a file of a device has
+/// a name while both are open.
+fn put_beside<S: Scratch>(
+    rt: &HostRuntime,
+    one: &mut S,
+    got_one: &mut [u8; 3],
+    got_other: &mut [u8; 3],
+) -> Result<bool, Failed> {
+    let Ok(mut other) = FileScratch::new(rt.alloc(), rt, ".") else {
+        return Err(Failed);
+    };
+    let done = put_on_both(one, &mut other, got_one, got_other);
+    let is_named = is_there(rt, "chain.scratch_") || is_there(rt, "chain.scratch__");
+    let closed = other.close();
+    done?;
+    closed?;
+    Ok(is_named)
+}
+
+/// Does so on two devices over files, which are closed then.
+fn put_on_files(
+    rt: &HostRuntime,
+    got_one: &mut [u8; 3],
+    got_other: &mut [u8; 3],
+) -> Result<bool, Failed> {
+    let Ok(mut one) = FileScratch::new(rt.alloc(), rt, ".") else {
+        return Err(Failed);
+    };
+    let done = put_beside(rt, &mut one, got_one, got_other);
+    let closed = one.close();
+    closed?;
+    done
+}
+
+/// Whether a file has these bytes.
+fn holds(rt: &HostRuntime, name: &str, wanted: &[u8]) -> bool {
+    match fs::read(rt, name) {
+        Ok(bytes) => bytes.as_slice() == wanted,
+        Err(_) => false,
+    }
+}
+
 #[test]
 fn scratch_files_without_names(rt: HostRuntime) {
-    let alloc = rt.alloc();
     // A file that has the name of the scratch file stays as it is.
     assert!(rt; fs::write(&rt, FILE, KEPT).is_ok());
-    let (Ok(mut one), Ok(mut other)) = (
-        FileScratch::new(alloc, &rt, "."),
-        FileScratch::new(alloc, &rt, "."),
-    ) else {
-        assert!(rt; false);
-        return;
-    };
-    // Each device has a file of its own.
+    // Each device has a file of its own. While they are open, none of them has a name.
     let (mut got_one, mut got_other) = ([0; 3], [0; 3]);
-    assert!(rt; put_on_both(&mut one, &mut other, &mut got_one, &mut got_other) == Ok(()));
+    assert!(rt; put_on_files(&rt, &mut got_one, &mut got_other) == Ok(false));
     assert!(rt; got_one == *b"abc");
     assert!(rt; got_other == *b"xyz");
-    // While they are open, none of them has a name.
-    assert!(rt; !is_there(&rt, "chain.scratch_"));
-    assert!(rt; !is_there(&rt, "chain.scratch__"));
-    assert!(rt; one.close() == Ok(()));
-    assert!(rt; other.close() == Ok(()));
-    match fs::read(&rt, FILE) {
-        Ok(bytes) => assert!(rt; bytes.as_slice() == KEPT),
-        Err(_) => assert!(rt; false),
-    }
+    assert!(rt; holds(&rt, FILE, KEPT));
     assert!(rt; fs::remove_file(&rt, FILE).is_ok());
 }
 
 /// Puts two texts on a device over a file, cuts the file to `len` bytes, and gets the second text.
+fn get_after_cut<S: Scratch>(
+    scratch: &mut S,
+    file: &File,
+    len: u64,
+    got: &mut [u8; 2],
+) -> Result<(), Failed> {
+    scratch.put(b"abc")?;
+    let second = scratch.put(b"de")?;
+    if file.set_len(len).is_err() {
+        return Ok(());
+    }
+    scratch.get(second, got)
+}
+
+/// Does so on a new file, which is removed then.
 fn get_from_short(rt: &HostRuntime, len: u64, got: &mut [u8; 2]) -> Result<(), Failed> {
     let Ok(file) = File::create_new(rt, SHORT_FILE) else {
         return Ok(());
@@ -120,12 +174,7 @@ fn get_from_short(rt: &HostRuntime, len: u64, got: &mut [u8; 2]) -> Result<(), F
         return Ok(());
     };
     let mut scratch = FileScratch::over(rt.alloc(), rt, file);
-    scratch.put(b"abc")?;
-    let second = scratch.put(b"de")?;
-    if cut.set_len(len).is_err() {
-        return Ok(());
-    }
-    let done = scratch.get(second, got);
+    let done = get_after_cut(&mut scratch, &cut, len, got);
     let _removed = fs::remove_file(rt, SHORT_FILE);
     done
 }
