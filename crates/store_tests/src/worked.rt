@@ -27,6 +27,21 @@ fn adds(alloc: Global, versions: &mut Versions, block: u32, links: usize) -> Res
     }
 }
 
+/// Whether a version can be added in each block, and has as many links as stand beside it.
+fn adds_each(
+    alloc: Global,
+    versions: &mut Versions,
+    added: &[(u32, usize)],
+) -> Result<bool, Memory> {
+    for (block, links) in added {
+        if !adds(alloc, versions, *block, *links)? {
+            return Ok(false);
+        }
+    }
+    Ok(true)
+}
+
+/// Whether a version that is looked up is found by the path that it must be.
 fn looks_up(alloc: Global, versions: &Versions, lookup: Lookup) -> Result<bool, Memory> {
     let path = versions.path(alloc, lookup.at)?;
     let (found, read) = versions.find(lookup.at);
@@ -42,130 +57,122 @@ fn looks_up_each(alloc: Global, versions: &Versions, lookups: &[Lookup]) -> Resu
     Ok(true)
 }
 
-fn three_are_found(alloc: Global) -> Result<bool, Memory> {
-    let mut versions = no_versions(alloc)?;
-    for (block, links) in [(2, 0), (9, 4), (10, 2)] {
-        if !adds(alloc, &mut versions, block, links)? {
-            return Ok(false);
-        }
+/// Whether these versions can be added, and are found then as they must be.
+fn adds_and_looks_up(
+    alloc: Global,
+    versions: &mut Versions,
+    added: &[(u32, usize)],
+    lookups: &[Lookup],
+) -> Result<bool, Memory> {
+    if !adds_each(alloc, versions, added)? {
+        return Ok(false);
     }
-    let all = [10, 9, 2];
-    looks_up_each(
-        alloc,
-        &versions,
-        &[
-            Lookup {
-                at: 1,
-                found: None,
-                path: &all,
-            },
-            Lookup {
-                at: 2,
-                found: Some(2),
-                path: &all,
-            },
-            Lookup {
-                at: 9,
-                found: Some(9),
-                path: &[10, 9],
-            },
-            Lookup {
-                at: u32::MAX,
-                found: Some(10),
-                path: &[10],
-            },
-        ],
-    )
+    looks_up_each(alloc, versions, lookups)
+}
+
+/// Whether this holds of a key without versions.
+fn are_found(alloc: Global, added: &[(u32, usize)], lookups: &[Lookup]) -> Result<bool, Memory> {
+    let mut versions = no_versions(alloc)?;
+    adds_and_looks_up(alloc, &mut versions, added, lookups)
 }
 
 #[test]
 fn three_versions(rt: HostRuntime) {
-    assert!(rt; three_are_found(rt.alloc()) == Ok(true));
+    let all = [10, 9, 2];
+    let lookups = [
+        Lookup {
+            at: 1,
+            found: None,
+            path: &all,
+        },
+        Lookup {
+            at: 2,
+            found: Some(2),
+            path: &all,
+        },
+        Lookup {
+            at: 9,
+            found: Some(9),
+            path: &[10, 9],
+        },
+        Lookup {
+            at: u32::MAX,
+            found: Some(10),
+            path: &[10],
+        },
+    ];
+    let added = [(2, 0), (9, 4), (10, 2)];
+    assert!(rt; are_found(rt.alloc(), &added, &lookups) == Ok(true));
 }
 
-/// Versions in the blocks 0 to 63; the height of each is the number of zeros at the end of its
-/// block's binary digits, and the first has no links.
-fn low_versions(alloc: Global) -> Result<Versions, Memory> {
-    let mut versions = no_versions(alloc)?;
-    versions.add(alloc, 0)?;
-    for block in 1..64u32 {
-        if !adds(
-            alloc,
-            &mut versions,
-            block,
-            block.trailing_zeros() as usize + 1,
-        )? {
-            return no_versions(alloc);
-        }
+/// Whether versions can be added in the blocks 0 to 63; the height of each is the number of zeros
+/// at the end of its block's binary digits, and the first has no links.
+fn adds_low(alloc: Global, versions: &mut Versions) -> Result<bool, Memory> {
+    if !adds(alloc, versions, 0, 0)? {
+        return Ok(false);
     }
-    Ok(versions)
-}
-
-fn far_are_found(alloc: Global) -> Result<bool, Memory> {
-    let mut versions = low_versions(alloc)?;
-    for (block, links) in [(524_287, 19), (524_288, 20)] {
-        if !adds(alloc, &mut versions, block, links)? {
+    for block in 1..64u32 {
+        if !adds(alloc, versions, block, block.trailing_zeros() as usize + 1)? {
             return Ok(false);
         }
     }
-    looks_up_each(
-        alloc,
-        &versions,
-        &[
-            Lookup {
-                at: 31,
-                found: Some(31),
-                path: &[524_288, 524_287, 32, 31],
-            },
-            Lookup {
-                at: 40,
-                found: Some(40),
-                path: &[524_288, 524_287, 48, 44, 42, 41, 40],
-            },
-        ],
-    )
+    Ok(true)
+}
+
+/// Whether this holds of a key with versions in these blocks.
+fn are_found_after_low(
+    alloc: Global,
+    added: &[(u32, usize)],
+    lookups: &[Lookup],
+) -> Result<bool, Memory> {
+    let mut versions = no_versions(alloc)?;
+    match adds_low(alloc, &mut versions) {
+        Ok(true) => adds_and_looks_up(alloc, &mut versions, added, lookups),
+        ended => ended,
+    }
 }
 
 #[test]
 fn far_versions(rt: HostRuntime) {
-    assert!(rt; far_are_found(rt.alloc()) == Ok(true));
+    let lookups = [
+        Lookup {
+            at: 31,
+            found: Some(31),
+            path: &[524_288, 524_287, 32, 31],
+        },
+        Lookup {
+            at: 40,
+            found: Some(40),
+            path: &[524_288, 524_287, 48, 44, 42, 41, 40],
+        },
+    ];
+    let added = [(524_287, 19), (524_288, 20)];
+    assert!(rt; are_found_after_low(rt.alloc(), &added, &lookups) == Ok(true));
 }
 
 /// Versions in the first and in the last block that a chain may have.
-fn farthest_are_found(alloc: Global) -> Result<bool, Memory> {
-    let mut versions = no_versions(alloc)?;
-    for (block, links) in [(0, 0), (4_294_967_294, 32)] {
-        if !adds(alloc, &mut versions, block, links)? {
-            return Ok(false);
-        }
-    }
-    let all = [4_294_967_294, 0];
-    looks_up_each(
-        alloc,
-        &versions,
-        &[
-            Lookup {
-                at: 0,
-                found: Some(0),
-                path: &all,
-            },
-            Lookup {
-                at: 4_294_967_293,
-                found: Some(0),
-                path: &all,
-            },
-            Lookup {
-                at: 4_294_967_294,
-                found: Some(4_294_967_294),
-                path: &[4_294_967_294],
-            },
-        ],
-    )
-}
-
 #[test]
 fn farthest_versions(rt: HostRuntime) {
-    assert!(rt; farthest_are_found(rt.alloc()) == Ok(true));
+    let all = [4_294_967_294, 0];
+    let lookups = [
+        Lookup {
+            at: 0,
+            found: Some(0),
+            path: &all,
+        },
+        Lookup {
+            at: 4_294_967_293,
+            found: Some(0),
+            path: &all,
+        },
+        Lookup {
+            at: 4_294_967_294,
+            found: Some(4_294_967_294),
+            path: &[4_294_967_294],
+        },
+    ];
+    let added = [(0, 0), (4_294_967_294, 32)];
+    assert!(rt; are_found(rt.alloc(), &added, &lookups) == Ok(true));
 }
 
 /// Adds versions in the blocks from 0 on, and returns the most entries that were read for one of
@@ -197,8 +204,10 @@ fn find_many(versions: &Versions, blocks: u32) -> Option<u64> {
 
 fn many_are_read(alloc: Global, blocks: u32) -> Result<(Option<u64>, Option<u64>), Memory> {
     let mut versions = no_versions(alloc)?;
-    let adding = add_many(alloc, &mut versions, blocks)?;
-    Ok((adding, find_many(&versions, blocks)))
+    match add_many(alloc, &mut versions, blocks) {
+        Ok(adding) => Ok((adding, find_many(&versions, blocks))),
+        Err(Memory) => Err(Memory),
+    }
 }
 
 #[test]
