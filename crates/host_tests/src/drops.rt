@@ -45,7 +45,8 @@ fn code(alloc: Global) -> Option<Checked> {
 }
 
 fn no_blocks(alloc: Global) -> Option<World<Checked>> {
-    Some(World::new(Resources::new(alloc, &Zeros).ok()?))
+    let resources = Resources::new(alloc, &Zeros).ok()?;
+    Some(World::new(resources))
 }
 
 /// The place of a call of a function in the block of this number.
@@ -85,12 +86,14 @@ fn rows_of(
 ) -> Option<RowList> {
     let site = site_of(step.function, number)?;
     let (outcome, capture) = captured(alloc, code, world, &site)?;
-    if outcome.status != step.status || outcome.cost != step.cost {
-        return None;
+    let ends_well = outcome.status == step.status && outcome.cost == step.cost;
+    if ends_well && outcome.status == TxStatus::Ok {
+        return capture.take_rows(number, 0).ok();
     }
-    match outcome.status {
-        TxStatus::Ok => capture.take_rows(number, 0).ok(),
-        _ => Some(RowList::new(alloc)),
+    if ends_well {
+        Some(RowList::new(alloc))
+    } else {
+        None
     }
 }
 

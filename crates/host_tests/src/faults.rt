@@ -154,7 +154,8 @@ fn encoded(alloc: Global, number: u32, txs: TxList) -> Option<Bytes> {
 fn block_of(alloc: Global, number: u32, tx: Tx) -> Option<Block>
     ensures { IfSome result IsBlock }
 {
-    let bytes = encoded(alloc, number, list_of(alloc, tx)?)?;
+    let txs = list_of(alloc, tx)?;
+    let bytes = encoded(alloc, number, txs)?;
     decoded(alloc, bytes.as_bytes())
 }
 
@@ -162,10 +163,13 @@ fn block_of(alloc: Global, number: u32, tx: Tx) -> Option<Block>
 fn deploying(alloc: Global) -> Option<Block>
     ensures { IfSome result IsBlock }
 {
+    let sender = Key::new(b"u").ok()?;
+    let name = Name::new(b"c").ok()?;
+    let source = Bytes::from_vec(Vec::from_slice(alloc, SOURCE).ok()?);
     let deploy = Tx::Deploy {
-        sender: Key::new(b"u").ok()?,
-        name: Name::new(b"c").ok()?,
-        source: Bytes::from_vec(Vec::from_slice(alloc, SOURCE).ok()?),
+        sender,
+        name,
+        source,
     };
     block_of(alloc, 0, deploy)
 }
@@ -174,10 +178,13 @@ fn deploying(alloc: Global) -> Option<Block>
 fn calling(alloc: Global) -> Option<Block>
     ensures { IfSome result IsBlock }
 {
+    let sender = Key::new(b"u").ok()?;
+    let contract = Name::new(b"c").ok()?;
+    let function = Name::new(b"ask").ok()?;
     let call = Tx::Call {
-        sender: Key::new(b"u").ok()?,
-        contract: Name::new(b"c").ok()?,
-        function: Name::new(b"ask").ok()?,
+        sender,
+        contract,
+        function,
         args: ValueList::new(alloc),
         budget: BUDGET,
     };
@@ -228,11 +235,8 @@ fn deployed(alloc: Global) -> Option<World<Checked>>
     ensures no_codes { IfSome result (λ world. world.staged_codes ≡ []) }
 {
     let block = deploying(alloc)?;
-    after(
-        alloc,
-        World::new(Resources::new(alloc, &Zeros).ok()?),
-        &block,
-    )
+    let resources = Resources::new(alloc, &Zeros).ok()?;
+    after(alloc, World::new(resources), &block)
 }
 
 /// How a call of the function ends over a host: its status, or the error.
