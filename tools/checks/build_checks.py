@@ -184,7 +184,7 @@ def progress_of_proofs(checks):
     below = crates_below(CRATE)
     tests = [crate for crate in below if crate.endswith("_tests") or crate == "run_cases"]
     checks.same("crates of tests that `--prove` proves", tests, [])
-    checks.holds("it proves the program and what it stands on", {"lineage", "chain_cli", "lc_names"} <= below.keys())
+    checks.holds("it proves the program and what it stands on", {"lineage", "chain_cli", "lc_base"} <= below.keys())
 
 
 def builds_that_end(clone):

@@ -9,7 +9,7 @@ FIRST = [
     ("chain_exec", "Fold", "block_effects"),
     ("block_log", "Standing", "standing"),
     ("disk_model", "Disk", "IsImage"),
-    ("crash_promises", "Promises", "Telling"),
+    ("cli_promises", "Promises", "Telling"),
     ("rooted_chain", "Roots", "root_in"),
     ("cli_output", "Showing", "VerifiedAnswersHold"),
 ]

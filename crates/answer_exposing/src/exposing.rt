@@ -2,7 +2,7 @@
 //! finds the first such pair.
 
 ghost use Rattle.std.specs.Prelude.{◌≡◌, true, Some, ℕ, List, [], length, slice_get, IfOk, IsErrOf};
-ghost use Rattle.scratch_model.specs.Scratch.{is_known};
+ghost use Rattle.lc_io.specs.Scratch.{is_known};
 ghost use Rattle.merkle_tree.specs.Tree.{audit_length};
 ghost use Rattle.merkle_dag.specs.{
   Lineage.{ledger_in, AgreesWith, LeavesLineage},
@@ -17,10 +17,11 @@ ghost use Rattle.answer_exposing.specs.Exposing.{IsFound, IsExposed, Clears};
 
 use crate::ledger::search_ledger;
 use lc_base::{Bytes, Digest, HostError, Memory};
+use lc_io::Scratch;
 use merkle_dag::{Lineage, QueryError};
-use scratch_model::Scratch;
+use proof_codec::ProofView;
 use std::alloc::Global;
-use text_clashes::{ClashSearch, ProofView, proof_texts};
+use text_clashes::{ClashSearch, proof_texts};
 
 /// Two texts that differ and have one digest.
 #[derive(Drop)]

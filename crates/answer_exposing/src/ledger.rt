@@ -4,7 +4,7 @@ ghost use Rattle.std.specs.{
   Prelude.{◌≡◌, true, [], ◌∷◌, ◌++◌, OnOk, IsErrOf},
   List.{flat_map},
 };
-ghost use Rattle.scratch_model.specs.Scratch.{is_known};
+ghost use Rattle.lc_io.specs.Scratch.{is_known};
 ghost use Rattle.root_laws.specs.Root.{root_text};
 ghost use Rattle.merkle_tree.specs.Tree.{node_texts};
 ghost use Rattle.merkle_dag.specs.Lineage.{AgreesWith, LeavesLineage};
@@ -19,10 +19,10 @@ use crate::leaves::{bytes_of_leaves, search_leaves};
 use crate::nodes::search_nodes;
 use crate::rows::{search_all_uses, search_rows};
 use lc_base::{Digest, HostError, Memory};
+use lc_io::Scratch;
 use merkle_dag::Lineage;
 use merkle_tree::MAX_HEIGHT;
 use prov_entry::FORWARD_START;
-use scratch_model::Scratch;
 use state_tree::Tree;
 use std::alloc::Global;
 use text_clashes::{ClashSearch, root_text, tagged_text};

@@ -6,7 +6,7 @@ ghost use Rattle.std.specs.{
   List.{flat_map},
 };
 ghost use Rattle.lc_base.specs.declared.row.Row.{Row};
-ghost use Rattle.scratch_model.specs.Scratch.{is_known};
+ghost use Rattle.lc_io.specs.Scratch.{is_known};
 ghost use Rattle.prov_entry.specs.{
   declared.limits.TheConstants.{MAX_LINKS},
   Spelling.{header_text},
@@ -21,9 +21,9 @@ ghost use Rattle.text_clashes.specs.Searching.{Searches};
 
 use entry_store::EntryId;
 use lc_base::{Dep, HostError, Memory};
+use lc_io::Scratch;
 use merkle_dag::Lineage;
 use prov_entry::{BODY, HEADER, Header, no_uses, with_use, write_header};
-use scratch_model::Scratch;
 use std::alloc::Global;
 use text_clashes::{ClashSearch, tagged_text, use_text};
 

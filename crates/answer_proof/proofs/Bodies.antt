@@ -6,8 +6,8 @@ use Rattle.lc_base.specs.declared.row.Row.{Row}
 use Rattle.prov_entry.specs.declared.entry.Body.{Body}
 use Rattle.prov_entry.specs.Spelling.{IsBody, body_fields}
 use Rattle.entry_views.specs.Reading.{body_at}
-use Rattle.row_bodies.specs.Bodies.{body_read}
-use Rattle.row_bodies.proofs.Bodies.{body_back}
+use Rattle.entry_views.specs.RowBodies.{body_read}
+use Rattle.entry_views.proofs.Bodies.{body_back}
 use Rattle.root_laws.specs.Naming.{body_of}
 use Rattle.root_laws.specs.TypedLedger.{IsTypedHistory}
 use Rattle.root_laws.proofs.Spellings.{bodies_spelled}

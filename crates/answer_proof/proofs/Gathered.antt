@@ -8,14 +8,14 @@ use Rattle.std.specs.Option.{option_map}
 use Rattle.std.proofs.lemmas.Bool.{le-leb}
 use Rattle.std.proofs.lemmas.List.Elements.{recursion_from_All}
 use Rattle.std.proofs.lemmas.Option.{get_or_from_slice_get}
-use Rattle.lc_names.specs.KeyBytes.{IsKey}
+use Rattle.lc_base.specs.KeyBytes.{IsKey}
 use Rattle.lc_base.specs.declared.digest.Digest.{Digest}
 use Rattle.lc_base.specs.declared.row.Row.{Row}
 use Rattle.lc_base.specs.declared.row.Dep.{Dep}
 use Rattle.lc_base.specs.declared.answer.Kind.{Kind}
 use Rattle.lc_base.specs.declared.answer.Query.{Query}
 use Rattle.lc_base.specs.History.{up_to, latest, uses}
-use Rattle.rows_index.specs.Places.{IsRowAt}
+use Rattle.plain_rows.specs.Places.{IsRowAt}
 use Rattle.merkle_tree.specs.Tree.{audit_path}
 use Rattle.merkle_tree.specs.Climbing.{bytes_of as bytes_of_digests}
 use Rattle.prov_entry.specs.declared.entry.Header.{Header}

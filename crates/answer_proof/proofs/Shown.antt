@@ -1,7 +1,7 @@
 -- The bytes of a made proof spell it, and it is accepted.
 use Rattle.std.proofs.Common.{◌≡◌, ℕ, ◌<◌, ◌≤◌, List, length}
 use Rattle.std.specs.List.{concat}
-use Rattle.lc_names.specs.KeyBytes.{IsKey}
+use Rattle.lc_base.specs.KeyBytes.{IsKey}
 use Rattle.lc_base.specs.declared.answer.Query.{Query}
 use Rattle.root_laws.specs.TypedLedger.{IsTypedLedger}
 use Rattle.proof_codec.specs.Spelling.{proof_fields}

@@ -11,7 +11,7 @@ use Rattle.lc_base.specs.History.{IsLawful, version_of}
 use Rattle.prov_entry.specs.declared.entry.Header.{Header}
 use Rattle.root_laws.specs.Naming.{header_of}
 use Rattle.entry_store.specs.declared.entry.EntryId.{EntryId}
-use Rattle.lineage_store.specs.OnPath.{version_in, version_of_entry, AreEntriesIn}
+use Rattle.merkle_dag.specs.lineage_index.OnPath.{version_in, version_of_entry, AreEntriesIn}
 use Rattle.proof_checks.specs.Making.{header_in}
 use Rattle.proof_checks.proofs.MadeWalks.{header_found}
 

@@ -1,2 +1,1 @@
 pub mod Proving
-pub use Rattle.merkle_dag.specs as merkle_dag

@@ -10,7 +10,7 @@ use Rattle.prov_entry.specs.declared.entry.Body.{Body}
 use Rattle.root_laws.specs.Root.{root_of}
 use Rattle.proof_codec.specs.declared.proof.Proof.{Proof}
 use Rattle.proof_codec.specs.Spelling.{proof_fields}
-use Rattle.proof_views.specs.Viewing.{Spells}
+use Rattle.proof_codec.specs.Viewing.{Spells}
 use Rattle.proof_checks.specs.Checks.{verdict}
 use Rattle.proof_checks.specs.Making.{made_proof}
 use Rattle.merkle_dag.specs.Ledger.{Ledger}

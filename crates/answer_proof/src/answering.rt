@@ -5,8 +5,8 @@ ghost use Rattle.std.specs.{
   Option.{is_some, option_map},
 };
 ghost use Rattle.lc_base.specs.{declared.row.Row.{Row}, History.{uses}};
-ghost use Rattle.scratch_model.specs.Scratch.{is_known};
-ghost use Rattle.rows_index.specs.Places.{IsRowAt};
+ghost use Rattle.lc_io.specs.Scratch.{is_known};
+ghost use Rattle.plain_rows.specs.Places.{IsRowAt};
 ghost use Rattle.prov_entry.specs.Spelling.{IsBody};
 ghost use Rattle.root_laws.specs.Naming.{body_of};
 ghost use Rattle.merkle_dag.specs.Lineage.{AgreesWith, LeavesLineage};
@@ -14,11 +14,11 @@ ghost use Rattle.proof_codec.specs.Spelling.{IsIfAny};
 ghost use Rattle.proof_checks.specs.Making.{uses_if};
 
 use entry_store::EntryId;
+use entry_views::body_of_bytes;
 use lc_base::{DepList, HostError, Kind, Memory};
+use lc_io::Scratch;
 use merkle_dag::Lineage;
 use prov_entry::Body;
-use row_bodies::body_of_bytes;
-use scratch_model::Scratch;
 use std::alloc::Global;
 
 /// The body of the row at an index; `None` if there is no index.

@@ -6,8 +6,8 @@ ghost use Rattle.std.specs.{
   Option.{is_some, option_map},
 };
 ghost use Rattle.lc_base.specs.History.{latest};
-ghost use Rattle.scratch_model.specs.Scratch.{is_known};
-ghost use Rattle.rows_index.specs.Places.{IsRowAt};
+ghost use Rattle.lc_io.specs.Scratch.{is_known};
+ghost use Rattle.plain_rows.specs.Places.{IsRowAt};
 ghost use Rattle.prov_entry.specs.Spelling.{IsBody};
 ghost use Rattle.root_laws.specs.Naming.{body_of};
 ghost use Rattle.merkle_dag.specs.Lineage.{AgreesWith, LeavesLineage};
@@ -20,11 +20,10 @@ use crate::asked::Asked;
 use crate::typed::check_types;
 use crate::walking::path_headers;
 use lc_base::{Bytes, HostError, Memory};
-use lineage_store::Steps;
-use merkle_dag::Lineage;
+use lc_io::Scratch;
+use merkle_dag::{Lineage, Steps};
 use proof_codec::{LeafProof, Proof, write};
 use prov_entry::Body;
-use scratch_model::Scratch;
 use std::alloc::Global;
 
 /// The proof made of all rows of a lineage, with this body. `answer` is the index of the row that

@@ -8,5 +8,4 @@ mod proving;
 mod typed;
 mod walking;
 
-pub use merkle_dag::{Lineage, QueryError};
 pub use proving::prove;

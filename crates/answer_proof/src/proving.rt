@@ -5,7 +5,7 @@ ghost use Rattle.std.specs.{
   Prelude.{◌≡◌, ◌==◌, ◌≤◌, ◌+◌, true, Some, length, slice_get, IfOk, IsErrOf},
   List.{concat},
 };
-ghost use Rattle.scratch_model.specs.Scratch.{is_known};
+ghost use Rattle.lc_io.specs.Scratch.{is_known};
 ghost use Rattle.merkle_dag.specs.Lineage.{ledger_in, AgreesWith, LeavesLineage};
 ghost use Rattle.proof_codec.specs.Spelling.{proof_fields};
 ghost use Rattle.proof_checks.specs.Making.{made_proof};
@@ -15,8 +15,8 @@ use crate::asked::Asked;
 use crate::gathering::bytes_of_rows;
 use crate::typed::check_types;
 use lc_base::{Bytes, HostError, Memory, Query};
+use lc_io::Scratch;
 use merkle_dag::{Lineage, QueryError};
-use scratch_model::Scratch;
 use std::alloc::Global;
 
 /// Whether a block is the last one.

@@ -2,7 +2,7 @@
 //! ranges from them.
 
 ghost use Rattle.std.specs.Prelude.{◌≡◌, ◌<◌, ◌^◌, length};
-ghost use Rattle.lc_names.specs.KeyBytes.{IsKey};
+ghost use Rattle.lc_base.specs.KeyBytes.{IsKey};
 ghost use Rattle.root_laws.specs.TypedLedger.{IsTypedLedger};
 
 use crate::asked::Asked;

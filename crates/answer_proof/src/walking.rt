@@ -1,7 +1,7 @@
 //! The headers on the path of a lookup, the newest version's first.
 
 ghost use Rattle.std.specs.{Prelude.{◌≡◌, ℕ, List, IfOk}, List.{filter_map}};
-ghost use Rattle.lineage_store.specs.OnPath.{AreEntriesIn};
+ghost use Rattle.merkle_dag.specs.lineage_index.OnPath.{AreEntriesIn};
 ghost use Rattle.proof_checks.specs.Making.{header_in, path_headers};
 
 use entry_store::EntryId;

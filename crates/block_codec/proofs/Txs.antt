@@ -4,8 +4,8 @@ use Rattle.std.specs.Prelude.{nat_le}
 use Rattle.std.specs.List.{flat_map, AllByRecursion}
 use Rattle.std.specs.Int.{w32, to_be_bytes}
 use Rattle.std.proofs.lemmas.Bool.{leb-true, le-leb, ne_eqb}
-use Rattle.lc_names.specs.KeyBytes.{IsKey}
-use Rattle.lc_names.specs.NameBytes.{IsName}
+use Rattle.lc_base.specs.KeyBytes.{IsKey}
+use Rattle.lc_base.specs.NameBytes.{IsName}
 use Rattle.lc_base.specs.declared.value.Value.{Value}
 use Rattle.lc_base.specs.declared.value.Value.TheVariants.{Text}
 use Rattle.byte_fields.specs.Spelling.{string_fields, value_fields, IsBlockValue}

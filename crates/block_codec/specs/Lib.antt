@@ -4,4 +4,3 @@ pub mod Frames
 pub mod Decoding
 pub mod Encoding
 pub mod Placement
-pub use Rattle.byte_fields.specs as byte_fields

@@ -2,8 +2,8 @@
 use Rattle.std.specs.Prelude.{◌≡◌, ℕ, ◌^◌, ◌<◌, ◌≤◌, ◌==◌, ◌||◌, Bool, true, if◌then◌else◌, List, [], ◌∷◌, ◌++◌, length, min, Result, Ok, Err}
 use Rattle.std.specs.List.{concat, flat_map, AllByRecursion}
 use Rattle.std.specs.Int.{w16, w32, to_be_bytes}
-use Rattle.lc_names.specs.KeyBytes.{IsKey}
-use Rattle.lc_names.specs.NameBytes.{IsName}
+use Rattle.lc_base.specs.KeyBytes.{IsKey}
+use Rattle.lc_base.specs.NameBytes.{IsName}
 use Rattle.lc_base.specs.declared.value.Value.{Value}
 use Rattle.byte_fields.specs.Prefixes.{IsLongestPrefix}
 use Rattle.byte_fields.specs.Spelling.{IsBytes, string_fields, value_fields, IsBlockValue}

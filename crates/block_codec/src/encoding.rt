@@ -4,7 +4,7 @@ ghost use Rattle.std.specs.{
   Prelude.{◌≡◌, ◌<◌, ◌≤◌, ◌∷◌, ◌++◌, [], List, ℕ, length, if◌then◌else◌, Ok, Err, IfOk, IsErrOf},
   List.{concat, flat_map, AllByRecursion},
 };
-ghost use Rattle.lc_names.specs.{KeyBytes.{IsKey}, NameBytes.{IsName}};
+ghost use Rattle.lc_base.specs.{KeyBytes.{IsKey}, NameBytes.{IsName}};
 ghost use Rattle.block_codec.specs.{
   Encoding.{Encodes, may_be_in_block},
   Spelling.{IsSet, IsDeploy, IsCall, IsTx, IsBlock, Spells, text_limit, set_fields, deploy_fields, call_fields, tx_fields, block_fields},

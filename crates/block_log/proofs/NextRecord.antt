@@ -4,7 +4,7 @@ use Rattle.std.specs.Prelude.{Option, Some, None, MatchBool, slice_get, unwrap_o
 use Rattle.std.proofs.lemmas.List.{length-map, map-append}
 use Rattle.std.proofs.lemmas.Option.{slice_get_past, slice_get-get_or}
 use Rattle.std.proofs.Math.Seq.{get_or-append_seam}
-use Rattle.block_codec.specs.byte_fields.Spelling.{IsBytes}
+use Rattle.byte_fields.specs.Spelling.{IsBytes}
 use Rattle.lc_base.specs.declared.digest.Digest.{Digest}
 use Rattle.lc_io.specs.Disk.{DiskState}
 use Rattle.disk_model.specs.Disk.{Torn, bytes_over, Rests, content_of, settled_disk}

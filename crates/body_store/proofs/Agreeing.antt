@@ -6,8 +6,8 @@ use Rattle.std.specs.Option.{option_map}
 use Rattle.std.proofs.lemmas.List.Elements.{All-weaker, All-contains, All-contains_itself, All-push}
 use Rattle.std.proofs.lemmas.List.Elements.{All-take, All-nil}
 use Rattle.std.proofs.lemmas.Option.{slice_get-get_or}
-use Rattle.scratch_model.specs.Scratch.{ScratchState, is_known, bytes_at, HoldsAt, IsKeptAt, Retains}
-use Rattle.scratch_model.proofs.Retaining.{kept_stays}
+use Rattle.lc_io.specs.Scratch.{ScratchState, is_known, bytes_at, HoldsAt, IsKeptAt, Retains}
+use Rattle.lc_io.proofs.Retaining.{kept_stays}
 use Rattle.body_store.specs.Bodies.{KeptBody, BodiesState, body_at}
 use Rattle.body_store.specs.Agreement.{HasBody, IsBodyOf, Agrees}
 

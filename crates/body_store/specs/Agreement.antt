@@ -1,7 +1,7 @@
 -- When bodies agree with the scratch device that keeps them.
 use Rattle.std.specs.Prelude.{◌≡◌, ℕ, true, List, Some}
 use Rattle.std.specs.List.{All}
-use Rattle.scratch_model.specs.Scratch.{ScratchState, is_known, IsKeptAt}
+use Rattle.lc_io.specs.Scratch.{ScratchState, is_known, IsKeptAt}
 use Rattle.body_store.specs.Bodies.{KeptBody, BodiesState, body_at}
 
 -- A body is kept at its place.

@@ -9,7 +9,7 @@ ghost use Rattle.lc_base.specs.{
   declared.limits.TheConstants.{MAX_ROWS},
   declared.host_error.HostError.TheVariants.{Fault},
 };
-ghost use Rattle.scratch_model.specs.Scratch.{is_known, HoldsAt, Serves};
+ghost use Rattle.lc_io.specs.Scratch.{is_known, HoldsAt, Serves};
 ghost use Rattle.body_store.specs.{
   Bodies.{bodies_of, body_at},
   Agreement.{Agrees},
@@ -19,8 +19,8 @@ ghost use Rattle.body_store.specs.{
 use crate::cache::{body_at_hand, keep, keep_shared};
 use crate::kept::{BodyIndex, Kept};
 use lc_base::{HostError, zeros};
+use lc_io::Scratch;
 use lru::LruCache;
-use scratch_model::Scratch;
 use shared_list::Shared;
 use std::alloc::Global;
 use std::rc::RcSlice;

@@ -6,7 +6,7 @@ ghost use Rattle.std.specs.{
   Rc.{rc_slice_items},
 };
 ghost use Rattle.lc_base.specs.{Faults.{HasCause}, declared.limits.TheConstants.{MAX_ROWS}};
-ghost use Rattle.scratch_model.specs.Scratch.{ScratchState, is_known, Retains};
+ghost use Rattle.lc_io.specs.Scratch.{ScratchState, is_known, Retains};
 ghost use Rattle.body_store.specs.{
   declared.limits.TheConstants.{CACHED_BODIES},
   Bodies.{bodies_in, body_at_index},
@@ -17,8 +17,8 @@ use crate::keeping::{body_from, push_to};
 use crate::kept::{BodyIndex, Kept};
 use crate::limits::CACHED_BODIES;
 use lc_base::{HostError, Memory};
+use lc_io::Scratch;
 use lru::LruCache;
-use scratch_model::Scratch;
 use shared_list::Shared;
 use std::alloc::{AllocError, Global};
 use std::marker::Model;

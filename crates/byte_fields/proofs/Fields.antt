@@ -11,10 +11,10 @@ use Rattle.std.proofs.lemmas.List.Sums.{position_or_len_is}
 use borrow.Author.Gap.{read_sfits}
 use Rattle.std.proofs.lemmas.Int.{of_z-to_z, to_z-of_z}
 use Rattle.std.proofs.Math.Facts.{Fits-of_z}
-use Rattle.lc_base.specs.lc_names.declared.limits.TheConstants.{MAX_KEY_BYTES, MAX_NAME_BYTES}
+use Rattle.lc_base.specs.declared.name_limits.TheConstants.{MAX_KEY_BYTES, MAX_NAME_BYTES}
 use Rattle.lc_base.specs.declared.limits.TheConstants.{MAX_TEXT_BYTES}
-use Rattle.lc_base.specs.lc_names.KeyBytes.{IsKey, is_key_byte, bad_key_byte}
-use Rattle.lc_base.specs.lc_names.NameBytes.{IsName, is_name_byte, bad_name_byte}
+use Rattle.lc_base.specs.KeyBytes.{IsKey, is_key_byte, bad_key_byte}
+use Rattle.lc_base.specs.NameBytes.{IsName, is_name_byte, bad_name_byte}
 use Rattle.lc_base.specs.TextBytes.{IsText, is_text_byte, bad_text_byte}
 use Rattle.lc_base.specs.declared.value.Value.{Value}
 use Rattle.lc_base.specs.declared.value.Value.TheVariants.{Int, Text, Gone}

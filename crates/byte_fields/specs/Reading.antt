@@ -1,10 +1,10 @@
 -- Reading fields from left to right, up to the first that is cut short or breaks its rule.
 use Rattle.std.specs.Prelude.{ℕ, zero, suc, ℤ, Bool, nat_lt, nat_le, ◌==◌, ◌&&◌, is_none, if◌then◌else◌, List, [], ◌∷◌, length, take, drop, Option, Some, None, Result, Ok, Err}
 use Rattle.std.specs.Int.{Width, w16, w64, byte_len, from_be_bytes, cast_signed}
-use Rattle.lc_base.specs.lc_names.KeyBytes.{bad_key_byte}
-use Rattle.lc_base.specs.lc_names.NameBytes.{bad_name_byte}
+use Rattle.lc_base.specs.KeyBytes.{bad_key_byte}
+use Rattle.lc_base.specs.NameBytes.{bad_name_byte}
 use Rattle.lc_base.specs.TextBytes.{bad_text_byte}
-use Rattle.lc_base.specs.lc_names.declared.limits.TheConstants.{MAX_KEY_BYTES, MAX_NAME_BYTES}
+use Rattle.lc_base.specs.declared.name_limits.TheConstants.{MAX_KEY_BYTES, MAX_NAME_BYTES}
 use Rattle.lc_base.specs.declared.limits.TheConstants.{MAX_TEXT_BYTES}
 use Rattle.lc_base.specs.declared.value.Value.{Value}
 use Rattle.lc_base.specs.declared.value.Value.TheVariants.{Int, Text, Gone}

@@ -5,11 +5,9 @@ ghost use Rattle.std.specs.{
   Prelude.{◌≡◌, ◌≤◌, ◌==◌, ◌&&◌, nat_le, nat_lt, is_none, if◌then◌else◌, Ok, Err, length},
   Int.{w16, w32, w64},
 };
-ghost use Rattle.lc_base.specs.lc_names.{
-  KeyBytes.{bad_key_byte},
-  declared.limits.TheConstants.{MAX_KEY_BYTES, MAX_NAME_BYTES},
-};
 ghost use Rattle.lc_base.specs.{
+  KeyBytes.{bad_key_byte},
+  declared.name_limits.TheConstants.{MAX_KEY_BYTES, MAX_NAME_BYTES},
   TextBytes.{bad_text_byte},
   declared.limits.TheConstants.{MAX_TEXT_BYTES},
 };

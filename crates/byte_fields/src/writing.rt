@@ -6,8 +6,7 @@ ghost use Rattle.std.specs.{
   List.{concat},
   Int.{w16, w32, w64, to_be_bytes},
 };
-ghost use Rattle.lc_base.specs.lc_names.{KeyBytes.{IsKey}, NameBytes.{IsName}};
-ghost use Rattle.lc_base.specs.TextBytes.{IsText};
+ghost use Rattle.lc_base.specs.{KeyBytes.{IsKey}, NameBytes.{IsName}, TextBytes.{IsText}};
 ghost use Rattle.byte_fields.specs.Spelling.{string_fields, value_fields, IsValue, Puts, PutsAll};
 
 use lc_base::{Bytes, Digest, Key, Memory, Name, Text, Value};

@@ -4,10 +4,10 @@ use Rattle.std.proofs.Common.{ap, ◌∙◌}
 use Rattle.std.specs.Prelude.{IfOk, unwrap_or}
 use Rattle.lc_base.specs.declared.answer.Kind.{Kind}
 use Rattle.block_codec.specs.declared.block.Block.{Block}
-use Rattle.cli_append.specs.chain_exec.Compiled.{compiled_in}
+use Rattle.chain_exec.specs.Compiled.{compiled_in}
 use Rattle.chain_replay.specs.Chain.{ChainState, StandsFor}
 use Rattle.cli_output.proofs.rooted_chain.Rooted.{as_many}
-use Rattle.cli_append.specs.cli_lines.declared.outcome.Outcome.{Outcome}
+use Rattle.cli_lines.specs.declared.outcome.Outcome.{Outcome}
 use Rattle.cli_output.specs.Output.{answer_outcome, at_or_last}
 
 at_is : (kept : ChainState) (blocks : List Block) (at : Option ℕ) → StandsFor kept blocks

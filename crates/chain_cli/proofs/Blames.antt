@@ -4,9 +4,9 @@ use Rattle.std.proofs.Common.{true≢false}
 use Rattle.std.specs.Prelude.{IsErrOf}
 use Rattle.std.proofs.lemmas.Bool.{cases_Bool, eqb-true, eq-eqb}
 use Rattle.lc_base.specs.Faults.{HasCause}
-use Rattle.cli_append.specs.declared.ending.RunEnd.{RunEnd}
-use Rattle.cli_append.specs.declared.ending.RunStop.{RunStop}
-use Rattle.cli_append.specs.cli_lines.declared.outcome.Ending.{Ending}
+use Rattle.cli_append.specs.cli_promises.declared.ending.RunEnd.{RunEnd}
+use Rattle.cli_append.specs.cli_promises.declared.ending.RunStop.{RunStop}
+use Rattle.cli_lines.specs.declared.outcome.Ending.{Ending}
 use Rattle.cli_append.proofs.Causes.{carried}
 use Rattle.cli_output.specs.Telling.{run_answer, upgrade_answer}
 

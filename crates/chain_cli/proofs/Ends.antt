@@ -9,9 +9,9 @@ use Rattle.contract_parse.specs.Syntax.{Outcome as SourceOutcome}
 use Rattle.contract_check.specs.Faults.{check_fault}
 use Rattle.contract_check.specs.declared.fault.Fault.{Fault}
 use Rattle.chain_pack.specs.declared.error.PackError.{PackError}
-use Rattle.cli_append.specs.declared.ending.RunEnd.{RunEnd}
-use Rattle.cli_append.specs.declared.ending.RunEnd.TheVariants as appends
-use Rattle.cli_append.specs.declared.ending.RunStop.{RunStop}
+use Rattle.cli_append.specs.cli_promises.declared.ending.RunEnd.{RunEnd}
+use Rattle.cli_append.specs.cli_promises.declared.ending.RunEnd.TheVariants as appends
+use Rattle.cli_append.specs.cli_promises.declared.ending.RunStop.{RunStop}
 use Rattle.cli_words.specs.Words.{CanBeGiven, IsCount}
 use Rattle.cli_words.specs.declared.words.Generation.{Generation}
 use Rattle.cli_words.specs.declared.words.Command.{Command}
@@ -23,12 +23,12 @@ use Rattle.cli_words.specs.declared.words.Command.TheVariants.{Root, Ask, Prove,
 use Rattle.cli_words.specs.declared.words.Command.TheVariants.{Trace, ProveTrace, VerifyTrace}
 use Rattle.cli_words.specs.declared.words.Command.TheVariants.{Range, ProveRange, VerifyRange}
 use Rattle.cli_words.specs.declared.words.Command.TheVariants.{MakeLight, Light}
-use Rattle.cli_append.specs.cli_lines.Outcome.{status_of}
-use Rattle.cli_append.specs.cli_lines.declared.outcome.Outcome.{Outcome}
-use Rattle.cli_append.specs.cli_lines.declared.outcome.Ending.{Ending}
-use Rattle.cli_append.specs.cli_lines.declared.outcome.Ending.TheVariants as endings
-use Rattle.cli_append.specs.cli_lines.declared.status.Status.{Status}
-use Rattle.cli_append.specs.cli_lines.declared.status.Status.TheVariants as statuses
+use Rattle.cli_lines.specs.Outcome.{status_of}
+use Rattle.cli_lines.specs.declared.outcome.Outcome.{Outcome}
+use Rattle.cli_lines.specs.declared.outcome.Ending.{Ending}
+use Rattle.cli_lines.specs.declared.outcome.Ending.TheVariants as endings
+use Rattle.cli_lines.specs.declared.status.Status.{Status}
+use Rattle.cli_lines.specs.declared.status.Status.TheVariants as statuses
 use Rattle.cli_output.specs.Blocks.{draft_outcome}
 use Rattle.cli_output.specs.Output.{Output, output_of, edition_number, fmt_outcome}
 use Rattle.cli_output.specs.Output.{source_outcome, IsFmtOutput, Long, Source}
@@ -43,7 +43,7 @@ use Rattle.cli_output.specs.declared.stop.OutcomeStop.{OutcomeStop}
 use Rattle.cli_output.specs.declared.stop.OutcomeStop.TheVariants as outcomes
 use Rattle.cli_output.proofs.Ends.{may_end, asked_ends}
 use Rattle.cli_append.specs.recovery.Node.{next_in_chain}
-use Rattle.cli_append.specs.declared.ending.RunStop.TheVariants as stops
+use Rattle.cli_append.specs.cli_promises.declared.ending.RunStop.TheVariants as stops
 
 -- ---- inputs that are read whole
 

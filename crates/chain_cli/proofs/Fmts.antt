@@ -3,12 +3,12 @@ use Rattle.std.proofs.Common.{◌≡◌, ℕ, ◌+◌, ◌≤◌, List, [], leng
 use Rattle.std.proofs.Common.{subst}
 use Rattle.std.specs.Prelude.{codes, IfSome}
 use Rattle.contract_parse.specs.Syntax.{Outcome as SourceOutcome, IsOutcome}
-use Rattle.cli_append.specs.cli_lines.declared.whole.TheConstants.{MAX_WHOLE_INPUT_BYTES}
-use Rattle.cli_append.specs.cli_lines.declared.outcome.Outcome.{Outcome}
-use Rattle.cli_append.specs.cli_lines.Outcome.{bad_input}
+use Rattle.cli_lines.specs.declared.whole.TheConstants.{MAX_WHOLE_INPUT_BYTES}
+use Rattle.cli_lines.specs.declared.outcome.Outcome.{Outcome}
+use Rattle.cli_lines.specs.Outcome.{bad_input}
 use Rattle.cli_output.specs.Output.{IsFmtOutput, Long, Source, output_of, source_outcome}
 use Rattle.cli_output.specs.Scanning.{IsFmtOutcome}
-use Rattle.cli_append.specs.cli_lines.Whole.{IsWholeInput}
+use Rattle.cli_lines.specs.Whole.{IsWholeInput}
 
 -- the outcome of a source that was read whole
 pub source_wanted : (edition : ℕ) (input : List ℕ) (found : SourceOutcome) (outcome : Outcome)

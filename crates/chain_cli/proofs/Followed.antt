@@ -4,13 +4,13 @@ use Rattle.std.specs.Prelude.{take, drop}
 use Rattle.std.proofs.lemmas.List.{take-append-drop}
 use Rattle.block_codec.specs.declared.block.Block.{Block}
 use Rattle.chain_replay.specs.Chain.{IsChain, placement_by_mark}
-use Rattle.chain_replay.proofs.chain_exec.TheLaws.{one_compiler}
-use Rattle.cli_append.specs.chain_exec.Compiled.{Compiler, compiled_in}
-use Rattle.crash_promises.specs.Promises.{Appends}
-use Rattle.cli_output.specs.cli_follow.Following.{follow_all}
-use Rattle.cli_output.specs.cli_follow.Laws.{FollowsItsLeader}
-use Rattle.cli_output.specs.cli_follow.follow_core.follower_steps.Laws.{IsPrefixOf}
-use Rattle.cli_output.proofs.cli_follow.Leader.{follows_leader}
+use Rattle.chain_exec.proofs.TheLaws.{one_compiler}
+use Rattle.chain_exec.specs.Compiled.{Compiler, compiled_in}
+use Rattle.cli_append.specs.cli_promises.Promises.{Appends}
+use Rattle.cli_append.specs.cli_promises.Following.{follow_all}
+use Rattle.cli_append.specs.cli_promises.FollowLaws.{FollowsItsLeader}
+use Rattle.follower_steps.specs.Laws.{IsPrefixOf}
+use Rattle.cli_append.proofs.Leader.{follows_leader}
 use Rattle.cli_output.specs.Output.{follow_to}
 use Rattle.cli_output.specs.Showing.{FollowedChainsArePrefixes}
 

@@ -11,13 +11,13 @@ use Rattle.contract_check.proofs.WithoutOffsets.{kinded_anywhere}
 use Rattle.contract_print.specs.Canonical.{contract_text}
 use Rattle.contract_print.proofs.RereadContracts.{reads_again}
 use Rattle.contract_print.proofs.WithoutOffsets.{one_text}
-use Rattle.crash_promises.specs.Promises.{Line, plain}
+use Rattle.cli_append.specs.cli_promises.Promises.{Line, plain}
 use Rattle.cli_output.specs.Texts.{last_line, lines_after, lines_of}
-use Rattle.cli_append.specs.cli_lines.Outcome.{outcome_with}
+use Rattle.cli_lines.specs.Outcome.{outcome_with}
 use Rattle.cli_output.specs.Output.{output_of, fmt_outcome, source_outcome, told_bytes, FitsInput}
 use Rattle.cli_output.specs.Output.{IsFmtOutput, Long, Source, FormatsAgain}
-use Rattle.cli_append.specs.cli_lines.declared.outcome.Ending.TheVariants as endings
-use Rattle.cli_append.specs.cli_lines.declared.status.Status.TheVariants as statuses
+use Rattle.cli_lines.specs.declared.outcome.Ending.TheVariants as endings
+use Rattle.cli_lines.specs.declared.status.Status.TheVariants as statuses
 
 -- ---- the lines of a text, joined
 

@@ -9,13 +9,13 @@ use Rattle.lc_io.specs.Disk.{DiskState, Stays}
 use Rattle.lc_io.specs.Outside.{Tell}
 use Rattle.disk_model.proofs.Moments.{stays_here, stays_on}
 use Rattle.block_log.specs.Standing.{NextBlock}
-use Rattle.crash_promises.specs.Promises.{plain, Telling}
-use Rattle.crash_promises.proofs.Tellings.{none_to_tell}
+use Rattle.cli_append.specs.cli_promises.Promises.{plain, Telling}
+use Rattle.cli_append.proofs.cli_promises.Tellings.{none_to_tell}
 use Rattle.lc_base.specs.declared.digest.Digest.{Digest}
 use Rattle.block_codec.specs.Placement.{bytes_digest, no_parent}
-use Rattle.chain_gen.specs.Generator.{Progress, MadeSoFar, none_made, first_blocks, blocks_of_seed}
-use Rattle.chain_gen.specs.Generator.{spelling, block_drawn, given_block, next_block, progress}
-use Rattle.chain_gen.specs.Generator.{GoesOn}
+use Rattle.chain_pack.specs.Generator.{Progress, MadeSoFar, none_made, first_blocks, blocks_of_seed}
+use Rattle.chain_pack.specs.Generator.{spelling, block_drawn, given_block, next_block, progress}
+use Rattle.chain_pack.specs.Generator.{GoesOn}
 use Rattle.cli_output.specs.Blocks.{frame}
 use Rattle.cli_output.proofs.Plain.{plain_more, plain_cut}
 

@@ -5,16 +5,16 @@ use Rattle.lc_base.specs.declared.answer.Answer.{Answer}
 use Rattle.lc_base.specs.declared.answer.Query.{Query}
 use Rattle.proof_codec.specs.declared.proof.Proof.{Proof}
 use Rattle.proof_codec.specs.Spelling.{IsProof}
-use Rattle.cli_traces.specs.cli_proofs.proof_checks.Checks.{verdict}
-use Rattle.cli_traces.specs.cli_proofs.proof_checks.declared.reject.Reject.{Reject}
+use Rattle.proof_checks.specs.Checks.{verdict}
+use Rattle.proof_checks.specs.declared.reject.Reject.{Reject}
 use Rattle.cli_output.specs.proof_commands.declared.verification.Verification.{Verification}
 use Rattle.cli_output.specs.proof_commands.Verifying.{of_verdict, IsVerification, OddDigits}
 use Rattle.cli_output.specs.proof_commands.Verifying.{NoDigit, NoProof, Judged}
 use Rattle.cli_output.proofs.replay_soundness.Sound.{accepted_proofs_answer_as_replays}
-use Rattle.crash_promises.specs.Promises.{plain}
-use Rattle.cli_append.specs.cli_lines.Lines.{answer_lines}
-use Rattle.cli_append.specs.cli_lines.Outcome.{status_of}
-use Rattle.cli_append.specs.cli_lines.declared.status.Status.TheVariants as statuses
+use Rattle.cli_append.specs.cli_promises.Promises.{plain}
+use Rattle.cli_lines.specs.Lines.{answer_lines}
+use Rattle.cli_lines.specs.Outcome.{status_of}
+use Rattle.cli_lines.specs.declared.status.Status.TheVariants as statuses
 use Rattle.cli_output.specs.Output.{LongProof, Verified}
 use Rattle.cli_output.specs.Proofs.{verification_outcome}
 use Rattle.cli_output.specs.Showing.{IsProofInHex, TellsReplays, VerifiedAnswersHold}

@@ -15,21 +15,21 @@ use Rattle.block_codec.specs.Placement.{digest_of}
 use Rattle.block_codec.specs.declared.limits.TheConstants.{MAX_FRAMES}
 use Rattle.block_codec.proofs.FrameBytes.{frame_bytes}
 use Rattle.block_codec.specs.declared.block.Block.{Block}
-use Rattle.cli_append.specs.chain_exec.Replay.{replay}
-use Rattle.cli_output.specs.light_soundness.Soundness.{AnswersByFile}
-use Rattle.cli_output.specs.light_soundness.light_client.Checking.{LightAnswer}
-use Rattle.cli_output.specs.light_soundness.light_client.Checking.{light_verdict}
-use Rattle.light_file.specs.Format.{head_bytes, light_bytes, light_in}
-use Rattle.light_file.specs.declared.block_root.BlockRoot.{BlockRoot}
-use Rattle.cli_output.specs.light_soundness.light_client.declared.reject.LightReject.{LightReject}
-use Rattle.cli_output.proofs.light_soundness.Sound.{light_answers_are_of_replays}
+use Rattle.chain_exec.specs.Replay.{replay}
+use Rattle.cli_output.specs.replay_soundness.LightSoundness.{AnswersByFile}
+use Rattle.light_client.specs.Checking.{LightAnswer}
+use Rattle.light_client.specs.Checking.{light_verdict}
+use Rattle.light_client.specs.Format.{head_bytes, light_bytes, light_in}
+use Rattle.light_client.specs.declared.block_root.BlockRoot.{BlockRoot}
+use Rattle.light_client.specs.declared.reject.LightReject.{LightReject}
+use Rattle.cli_output.proofs.replay_soundness.LightSound.{light_answers_are_of_replays}
 use Rattle.byte_fields.proofs.Laws.{IsBytes-after}
-use Rattle.light_file.proofs.Files.{read_files_are_written}
-use Rattle.cli_output.proofs.light_soundness.light_client.Verdicts.{verdict_holds}
-use Rattle.cli_output.proofs.light_maker.Pieces.{pieces_make_the_file}
-use Rattle.cli_output.specs.light_maker.Making.{piece_bytes}
-use Rattle.cli_output.specs.light_maker.declared.limits.TheConstants.{BLOCKS_PER_PIECE}
-use Rattle.crash_promises.specs.Promises.{Line, plain}
+use Rattle.light_client.proofs.Files.{read_files_are_written}
+use Rattle.light_client.proofs.Verdicts.{verdict_holds}
+use Rattle.light_client.proofs.Pieces.{pieces_make_the_file}
+use Rattle.light_client.specs.Making.{piece_bytes}
+use Rattle.light_client.specs.declared.piece_limits.TheConstants.{BLOCKS_PER_PIECE}
+use Rattle.cli_append.specs.cli_promises.Promises.{Line, plain}
 use Rattle.chain_input.specs.Folding.{FoldEnd}
 use Rattle.cli_output.specs.Frames.{framed, framed_from, framed_step}
 use Rattle.cli_output.specs.Lights.{proof_lines, all_proof_lines, refused_lines, light_pieces}

@@ -2,18 +2,20 @@
 -- root, unless texts clash.
 use Rattle.std.proofs.Common.{◌≡◌, inl, inr, ℕ, List, map, Result, Ok, Err, refl, ap}
 use Rattle.lc_base.specs.declared.row.Version.{Version}
-use Rattle.cli_output.specs.range_commands.range_checks.declared.range_proof.RangeProof.{RangeProof}
-use Rattle.cli_output.specs.range_commands.range_checks.declared.reject.RangeReject.{RangeReject}
-use Rattle.cli_output.specs.range_commands.range_checks.Checks.{range_verdict}
-use Rattle.cli_output.specs.range_commands.range_checks.RangeTexts.{IsRangeProof}
-use Rattle.cli_output.specs.range_commands.declared.verification.RangeVerification.{RangeVerification}
-use Rattle.cli_output.specs.range_commands.Verifying.{of_range_verdict, IsRangeVerification}
-use Rattle.cli_output.specs.range_commands.Verifying.{OddDigits, NoDigit, NoRange, Judged}
+use Rattle.proof_checks.specs.declared.range_proof.RangeProof.{RangeProof}
+use Rattle.proof_checks.specs.declared.range_reject.RangeReject.{RangeReject}
+use Rattle.proof_checks.specs.RangeChecks.{range_verdict}
+use Rattle.proof_checks.specs.RangeTexts.{IsRangeProof}
+use Rattle.cli_output.specs.proof_commands.declared.range_verification.RangeVerification.{
+  RangeVerification,
+}
+use Rattle.cli_output.specs.proof_commands.RangeVerifying.{of_range_verdict, IsRangeVerification}
+use Rattle.cli_output.specs.proof_commands.RangeVerifying.{OddDigits, NoDigit, NoRange, Judged}
 use Rattle.cli_output.proofs.replay_soundness.Ranged.{accepted_ranges_are_of_replays}
-use Rattle.crash_promises.specs.Promises.{plain}
-use Rattle.cli_append.specs.cli_lines.Lines.{range_lines}
-use Rattle.cli_append.specs.cli_lines.Outcome.{status_of}
-use Rattle.cli_append.specs.cli_lines.declared.status.Status.TheVariants as statuses
+use Rattle.cli_append.specs.cli_promises.Promises.{plain}
+use Rattle.cli_lines.specs.Lines.{range_lines}
+use Rattle.cli_lines.specs.Outcome.{status_of}
+use Rattle.cli_lines.specs.declared.status.Status.TheVariants as statuses
 use Rattle.cli_output.specs.Output.{LongRange, VerifiedRange}
 use Rattle.cli_output.specs.Ranges.{range_verification_outcome}
 use Rattle.cli_output.specs.Showing.{IsRangeInHex, TellsReplayedRanges, VerifiedRangesHold}

@@ -1,19 +1,21 @@
 -- What `trace verify` prints for a proof that it accepts are the ancestors of each chain with the
 -- root, unless texts clash.
 use Rattle.std.proofs.Common.{◌≡◌, inl, inr, ℕ, List, map, Option, Result, Ok, Err, refl, ap}
-use Rattle.row_ancestors.specs.declared.trace.Trace.{Trace}
-use Rattle.trace_checks.specs.declared.trace_proof.TraceProof.{TraceProof}
-use Rattle.trace_checks.specs.declared.reject.TraceReject.{TraceReject}
-use Rattle.trace_checks.specs.Checks.{trace_verdict}
-use Rattle.trace_checks.specs.TraceTexts.{IsTraceProof}
-use Rattle.cli_output.specs.trace_commands.declared.verification.TraceVerification.{TraceVerification}
-use Rattle.cli_output.specs.trace_commands.Verifying.{of_trace_verdict, IsTraceVerification}
-use Rattle.cli_output.specs.trace_commands.Verifying.{OddDigits, NoDigit, NoTrace, Judged}
+use Rattle.root_laws.specs.declared.trace.Trace.{Trace}
+use Rattle.proof_checks.specs.declared.trace_proof.TraceProof.{TraceProof}
+use Rattle.proof_checks.specs.declared.trace_reject.TraceReject.{TraceReject}
+use Rattle.proof_checks.specs.TraceChecks.{trace_verdict}
+use Rattle.proof_checks.specs.TraceTexts.{IsTraceProof}
+use Rattle.cli_output.specs.proof_commands.declared.trace_verification.TraceVerification.{
+  TraceVerification,
+}
+use Rattle.cli_output.specs.proof_commands.TraceVerifying.{of_trace_verdict, IsTraceVerification}
+use Rattle.cli_output.specs.proof_commands.TraceVerifying.{OddDigits, NoDigit, NoTrace, Judged}
 use Rattle.cli_output.proofs.replay_soundness.Traced.{accepted_traces_are_of_replays}
-use Rattle.crash_promises.specs.Promises.{plain}
-use Rattle.cli_append.specs.cli_lines.Lines.{trace_lines}
-use Rattle.cli_append.specs.cli_lines.Outcome.{status_of}
-use Rattle.cli_append.specs.cli_lines.declared.status.Status.TheVariants as statuses
+use Rattle.cli_append.specs.cli_promises.Promises.{plain}
+use Rattle.cli_lines.specs.Lines.{trace_lines}
+use Rattle.cli_lines.specs.Outcome.{status_of}
+use Rattle.cli_lines.specs.declared.status.Status.TheVariants as statuses
 use Rattle.cli_output.specs.Output.{LongTrace, VerifiedTrace}
 use Rattle.cli_output.specs.Traces.{trace_verification_outcome}
 use Rattle.cli_output.specs.Showing.{IsTraceInHex, TellsReplayedTraces, VerifiedTracesHold}

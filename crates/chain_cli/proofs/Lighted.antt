@@ -12,20 +12,20 @@ use Rattle.block_codec.specs.Reading.{block_in}
 use Rattle.block_codec.specs.Placement.{digest_of}
 use Rattle.block_codec.specs.declared.block.Block.{Block}
 use Rattle.block_log.specs.Standing.{standing}
-use Rattle.cli_traces.specs.cli_proofs.Exposing.{ledger_kept}
-use Rattle.cli_append.specs.chain_exec.Compiled.{compiled_in}
-use Rattle.cli_append.specs.chain_exec.Effect.{History}
-use Rattle.cli_append.specs.chain_exec.Replay.{replay}
-use Rattle.cli_traces.specs.cli_proofs.merkle_dag.Ledger.{Ledger}
+use Rattle.cli_proofs.specs.Exposing.{ledger_kept}
+use Rattle.chain_exec.specs.Compiled.{compiled_in}
+use Rattle.chain_exec.specs.Effect.{History}
+use Rattle.chain_exec.specs.Replay.{replay}
+use Rattle.merkle_dag.specs.Ledger.{Ledger}
 use Rattle.chain_replay.specs.Chain.{ChainState, StandsFor}
 use Rattle.cli_append.specs.recovery.Node.{IsChainStored, next_in_chain}
-use Rattle.cli_append.specs.declared.ending.RunStop.{RunStop}
-use Rattle.cli_append.specs.cli_lines.Outcome.{outcome_with}
-use Rattle.cli_append.specs.cli_lines.declared.outcome.Outcome.{Outcome}
-use Rattle.cli_append.specs.cli_lines.declared.outcome.Ending.{Ending}
-use Rattle.cli_append.specs.cli_lines.declared.outcome.Ending.TheVariants as endings
+use Rattle.cli_append.specs.cli_promises.declared.ending.RunStop.{RunStop}
+use Rattle.cli_lines.specs.Outcome.{outcome_with}
+use Rattle.cli_lines.specs.declared.outcome.Outcome.{Outcome}
+use Rattle.cli_lines.specs.declared.outcome.Ending.{Ending}
+use Rattle.cli_lines.specs.declared.outcome.Ending.TheVariants as endings
 use Rattle.cli_words.specs.declared.words.Command.TheVariants.{MakeLight, Light}
-use Rattle.light_file.specs.Format.{light_in}
+use Rattle.light_client.specs.Format.{light_in}
 use Rattle.cli_output.specs.Lights.{light_pieces}
 use Rattle.cli_output.specs.Output.{output_of, light_outcome, light_left}
 use Rattle.cli_output.specs.Running.{IsRun, leaves}

@@ -16,26 +16,28 @@ use Rattle.block_log.specs.Standing.{Standing, Blank, NotALog, Damaged, Holds, L
 use Rattle.block_log.specs.Standing.{nothing_logged, logged_of, with_blocks, with_mark, chain_of}
 use Rattle.block_log.specs.Standing.{standing}
 use Rattle.block_log.proofs.Resting.{rests_weaker}
-use Rattle.cli_append.specs.chain_exec.Compiled.{compiled_in}
+use Rattle.chain_exec.specs.Compiled.{compiled_in}
 use Rattle.chain_replay.specs.Chain.{placement_by_mark}
 use Rattle.chain_replay.specs.Judging.{added_by_all}
 use Rattle.chain_input.specs.Folding.{Fold, FoldEnd, fold_from}
 use Rattle.cli_append.specs.recovery.Node.{NodeState, IsNodeOf, IsNodeStarted, IsNoStart}
 use Rattle.cli_append.specs.recovery.Node.{next_in_chain, logged_in}
 use Rattle.cli_append.specs.recovery.declared.errors.StartError.{StartError}
-use Rattle.crash_promises.specs.Promises.{Line, Appends, Marks, Telling, IsPartly, MayLeave}
-use Rattle.crash_promises.specs.Promises.{IsChanged}
-use Rattle.crash_promises.proofs.Tellings.{told_since}
-use Rattle.cli_append.specs.Appending.{AppendsAll, HasEnded as HasAppended, IsKnown, fold_lines}
-use Rattle.cli_append.specs.Appending.{fold_end, upgrade_change, Upgrades}
-use Rattle.cli_append.proofs.Frames.{with_none}
-use Rattle.cli_append.specs.declared.ending.RunEnd.{RunEnd}
-use Rattle.cli_append.specs.declared.ending.RunStop.{RunStop}
-use Rattle.cli_append.specs.cli_lines.Outcome.{status_of}
-use Rattle.cli_append.specs.cli_lines.declared.outcome.Outcome.{Outcome}
-use Rattle.cli_append.specs.cli_lines.declared.outcome.Ending.{Ending}
-use Rattle.cli_output.specs.cli_follow.Following.{FollowsAll, HasFollowed, FollowFold, follow_all}
-use Rattle.cli_output.specs.cli_follow.Following.{follow_lines}
+use Rattle.cli_append.specs.cli_promises.Promises.{Line, Appends, Marks, Telling, IsPartly}
+use Rattle.cli_append.specs.cli_promises.Promises.{MayLeave}
+use Rattle.cli_append.specs.cli_promises.Promises.{IsChanged}
+use Rattle.cli_append.proofs.cli_promises.Tellings.{told_since}
+use Rattle.cli_append.specs.cli_promises.Appending.{AppendsAll, HasEnded as HasAppended, IsKnown}
+use Rattle.cli_append.specs.cli_promises.Appending.{fold_lines}
+use Rattle.cli_append.specs.cli_promises.Appending.{fold_end, upgrade_change, Upgrades}
+use Rattle.cli_append.proofs.cli_promises.Resting.{with_none}
+use Rattle.cli_append.specs.cli_promises.declared.ending.RunEnd.{RunEnd}
+use Rattle.cli_append.specs.cli_promises.declared.ending.RunStop.{RunStop}
+use Rattle.cli_lines.specs.Outcome.{status_of}
+use Rattle.cli_lines.specs.declared.outcome.Outcome.{Outcome}
+use Rattle.cli_lines.specs.declared.outcome.Ending.{Ending}
+use Rattle.cli_append.specs.cli_promises.Following.{FollowsAll, HasFollowed, FollowFold, follow_all}
+use Rattle.cli_append.specs.cli_promises.Following.{follow_lines}
 use Rattle.cli_words.specs.declared.words.Command.{Command}
 use Rattle.cli_words.specs.declared.words.Command.TheVariants.{Append, Follow, Upgrade}
 use Rattle.cli_output.specs.Output.{Output, output_of, upgrade_output, on_log, fold_ending, Wants}

@@ -13,12 +13,12 @@ use Rattle.block_log.specs.Standing.{standing}
 use Rattle.block_log.specs.Log.{LogState, Agrees, IsOldOrMarked, next_in_log}
 use Rattle.cli_append.specs.recovery.Node.{NodeState, IsNodeOf, IsNodeStarted, next_in_chain}
 use Rattle.cli_append.specs.recovery.Node.{logged_in}
-use Rattle.crash_promises.specs.Promises.{NoChange, Appends, Marks, MayLeaveAny}
-use Rattle.crash_promises.proofs.Tellings.{still}
-use Rattle.cli_append.specs.Appending.{IsKnown, GoesFrom, Grows, Upgrades}
-use Rattle.cli_append.specs.declared.ending.RunStop.{RunStop}
+use Rattle.cli_append.specs.cli_promises.Promises.{NoChange, Appends, Marks, MayLeaveAny}
+use Rattle.cli_append.proofs.cli_promises.Tellings.{still}
+use Rattle.cli_append.specs.cli_promises.Appending.{IsKnown, GoesFrom, Grows, Upgrades}
+use Rattle.cli_append.specs.cli_promises.declared.ending.RunStop.{RunStop}
 use Rattle.cli_append.proofs.ByLog.{log_stands}
-use Rattle.cli_append.proofs.Frames.{rests_each}
+use Rattle.cli_append.proofs.cli_promises.Resting.{rests_each}
 
 rests_told : (state : Option DiskState) (content : List ℕ) → IsSettled state
     → content_of state ≡ Some content → Rests state (λ c. c ≡ content)

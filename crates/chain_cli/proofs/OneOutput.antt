@@ -29,10 +29,10 @@ use Rattle.block_codec.proofs.FrameBytes.{frame_bytes}
 use Rattle.cli_output.specs.proof_commands.Verifying.{verification}
 use Rattle.cli_output.specs.proof_commands.declared.verification.Verification.{Verification}
 use Rattle.cli_output.proofs.proof_commands.Verified.{is_verification, one_answer}
-use Rattle.cli_append.specs.cli_lines.declared.whole.TheConstants.{MAX_WHOLE_INPUT_BYTES}
-use Rattle.cli_append.specs.chain_exec.Compiled.{Compiler, compiled_in}
-use Rattle.cli_append.specs.chain_exec.Laws.{OneCompiler}
-use Rattle.chain_replay.proofs.chain_exec.TheLaws.{one_compiler}
+use Rattle.cli_lines.specs.declared.whole.TheConstants.{MAX_WHOLE_INPUT_BYTES}
+use Rattle.chain_exec.specs.Compiled.{Compiler, compiled_in}
+use Rattle.chain_exec.specs.Laws.{OneCompiler}
+use Rattle.chain_exec.proofs.TheLaws.{one_compiler}
 use Rattle.chain_replay.specs.Judging.{Taken, judgement_of, added_by}
 use Rattle.chain_replay.specs.declared.refusal.Refusal.{Refusal}
 use Rattle.chain_input.specs.Folding.{Fold, taken_before, fold_after_frame, fold_step, fold_from}
@@ -45,15 +45,19 @@ use Rattle.cli_output.specs.Output.{root_output, ask_output, prove_output, on_lo
 use Rattle.cli_output.specs.Output.{trace_output, prove_trace_output, IsVerifyTraceOutput}
 use Rattle.cli_output.specs.Output.{LongTrace, VerifiedTrace}
 use Rattle.cli_output.specs.Traces.{trace_verification_outcome}
-use Rattle.cli_output.specs.trace_commands.Verifying.{trace_verification}
-use Rattle.cli_output.specs.trace_commands.declared.verification.TraceVerification.{TraceVerification}
-use Rattle.cli_output.proofs.trace_commands.Traced.{is_trace_verification, one_told}
+use Rattle.cli_output.specs.proof_commands.TraceVerifying.{trace_verification}
+use Rattle.cli_output.specs.proof_commands.declared.trace_verification.TraceVerification.{
+  TraceVerification,
+}
+use Rattle.cli_output.proofs.proof_commands.Traced.{is_trace_verification, one_told}
 use Rattle.cli_output.specs.Output.{range_output, prove_range_output, IsVerifyRangeOutput}
 use Rattle.cli_output.specs.Output.{LongRange, VerifiedRange}
 use Rattle.cli_output.specs.Ranges.{range_verification_outcome}
-use Rattle.cli_output.specs.range_commands.Verifying.{range_verification}
-use Rattle.cli_output.specs.range_commands.declared.verification.RangeVerification.{RangeVerification}
-use Rattle.cli_output.proofs.range_commands.Ranged.{is_range_verification, one_range_told}
+use Rattle.cli_output.specs.proof_commands.RangeVerifying.{range_verification}
+use Rattle.cli_output.specs.proof_commands.declared.range_verification.RangeVerification.{
+  RangeVerification,
+}
+use Rattle.cli_output.proofs.proof_commands.Ranged.{is_range_verification, one_range_told}
 use Rattle.cli_output.specs.Output.{edition_number, source_outcome, IsFmtOutput, Long, Source}
 use Rattle.cli_output.specs.Output.{IsVerifyOutput}
 use Rattle.cli_output.specs.Output.{LongProof, Verified, IsExposeOutput, IsOnLog, Wants, IsWanted}

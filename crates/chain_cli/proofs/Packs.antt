@@ -5,10 +5,10 @@ use Rattle.std.specs.Prelude.{codes, IfOk, IfSome}
 use Rattle.std.proofs.lemmas.Bool.Decides.{nat_tests}
 use Rattle.chain_pack.specs.Draft.{pack_fault, texts_of_draft}
 use Rattle.chain_pack.specs.declared.error.PackError.{PackError}
-use Rattle.cli_append.specs.cli_lines.Outcome.{bad_input}
-use Rattle.cli_append.specs.cli_lines.Whole.{IsWholeInput}
-use Rattle.cli_append.specs.cli_lines.declared.whole.TheConstants.{MAX_WHOLE_INPUT_BYTES}
-use Rattle.cli_append.specs.cli_lines.declared.outcome.Outcome.{Outcome}
+use Rattle.cli_lines.specs.Outcome.{bad_input}
+use Rattle.cli_lines.specs.Whole.{IsWholeInput}
+use Rattle.cli_lines.specs.declared.whole.TheConstants.{MAX_WHOLE_INPUT_BYTES}
+use Rattle.cli_lines.specs.declared.outcome.Outcome.{Outcome}
 use Rattle.cli_output.specs.Blocks.{draft_cause, draft_outcome, TellsFault}
 use Rattle.cli_output.specs.Output.{Output, output_of, long_output, pack_output}
 use Rattle.cli_output.specs.Scanning.{GivesOutput}

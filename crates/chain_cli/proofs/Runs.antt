@@ -11,13 +11,13 @@ use Rattle.lc_base.specs.declared.digest.Digest.{Digest}
 use Rattle.block_codec.specs.Reading.{block_in}
 use Rattle.block_codec.specs.declared.block.Block.{Block}
 use Rattle.block_log.specs.Standing.{standing}
-use Rattle.cli_append.specs.chain_exec.Compiled.{compiled_in}
+use Rattle.chain_exec.specs.Compiled.{compiled_in}
 use Rattle.chain_replay.specs.Chain.{ChainState, StandsFor, placement_in}
 use Rattle.chain_input.specs.Folding.{fold_input}
 use Rattle.cli_append.specs.recovery.Node.{next_in_chain}
-use Rattle.crash_promises.specs.Promises.{plain, NoChange, Telling}
-use Rattle.cli_append.specs.declared.ending.RunStop.{RunStop}
-use Rattle.chain_gen.specs.Generator.{blocks_of_seed}
+use Rattle.cli_append.specs.cli_promises.Promises.{plain, NoChange, Telling}
+use Rattle.cli_append.specs.cli_promises.declared.ending.RunStop.{RunStop}
+use Rattle.chain_pack.specs.Generator.{blocks_of_seed}
 use Rattle.cli_words.specs.declared.words.Generation.{Generation}
 use Rattle.cli_words.specs.declared.words.Command.{Command}
 use Rattle.cli_words.specs.declared.words.BlockVersion.{BlockVersion}
@@ -27,12 +27,12 @@ use Rattle.cli_words.specs.declared.words.Command.TheVariants.{Follow, Upgrade, 
 use Rattle.cli_words.specs.declared.words.Command.TheVariants.{Verify, Expose, Trace, ProveTrace}
 use Rattle.cli_words.specs.declared.words.Command.TheVariants.{VerifyTrace, Range, ProveRange}
 use Rattle.cli_words.specs.declared.words.Command.TheVariants.{VerifyRange, MakeLight, Light}
-use Rattle.cli_append.specs.cli_lines.Lines.{usage_line}
-use Rattle.cli_append.specs.cli_lines.Outcome.{outcome_with}
-use Rattle.cli_append.specs.cli_lines.declared.outcome.Outcome.{Outcome}
-use Rattle.cli_append.specs.cli_lines.declared.outcome.Ending.{Ending}
-use Rattle.cli_append.specs.cli_lines.declared.outcome.Ending.TheVariants as endings
-use Rattle.cli_append.specs.cli_lines.declared.status.Status.{Status}
+use Rattle.cli_lines.specs.Lines.{usage_line}
+use Rattle.cli_lines.specs.Outcome.{outcome_with}
+use Rattle.cli_lines.specs.declared.outcome.Outcome.{Outcome}
+use Rattle.cli_lines.specs.declared.outcome.Ending.{Ending}
+use Rattle.cli_lines.specs.declared.outcome.Ending.TheVariants as endings
+use Rattle.cli_lines.specs.declared.status.Status.{Status}
 use Rattle.cli_output.specs.Blocks.{frame}
 use Rattle.cli_output.specs.Output.{Output, output_of, usage_output, scan_output, pack_output}
 use Rattle.cli_output.specs.Output.{gen_output, load_outcome, on_log, answer_outcome, root_outcome}

@@ -5,12 +5,10 @@ ghost use Rattle.std.specs.Prelude.{◌≡◌, ℕ, Bool, true, false, List, Opt
 ghost use Rattle.lc_base.specs.Faults.{HasCause};
 ghost use Rattle.disk_model.specs.Disk.{IsSettled};
 ghost use Rattle.chain_replay.specs.Chain.{ChainState};
-ghost use Rattle.scratch_model.specs.Scratch.{is_known};
+ghost use Rattle.lc_io.specs.Scratch.{is_known};
 ghost use Rattle.cli_append.specs.recovery.Restoring.{ReadsLog};
-ghost use Rattle.cli_traces.specs.cli_proofs.{
-  Exposing.{ledger_kept},
-  merkle_dag.Lineage.{AgreesWith, ledger_in},
-};
+ghost use Rattle.cli_proofs.specs.Exposing.{ledger_kept};
+ghost use Rattle.merkle_dag.specs.Lineage.{AgreesWith, ledger_in};
 ghost use Rattle.cli_words.specs.{Words.{CanBeGiven}, declared.words.Command.TheVariants.{Ask}};
 ghost use Rattle.cli_output.specs.{
   Running.{MayEnd, found_no_log},
@@ -24,16 +22,17 @@ use crate::loading::load_outcome;
 use crate::over_log::{ask_outcome, root_outcome};
 use crate::packing::pack;
 use crate::scan::scan;
-use cli_append::{Node, Outcome, stored_chain};
+use cli_append::{Node, stored_chain};
+use cli_lines::Outcome;
 use cli_output::{OutcomeStop, start_outcome};
-use cli_ranges::{prove_range, range, verify_range};
-use cli_traces::{Lineage, expose, prove, prove_trace, trace, verify, verify_trace};
+use cli_proofs::{
+    expose, prove, prove_range, prove_trace, range, trace, verify, verify_range, verify_trace,
+};
 use cli_words::Command;
 use disk_model::Disk;
-use lc_base::{Key, Kind};
-use lc_io::Source;
-use resources::Resources;
-use scratch_model::Scratch;
+use lc_base::{Key, Kind, Resources};
+use lc_io::{Scratch, Source};
+use merkle_dag::Lineage;
 use std::alloc::Global;
 
 /// What is found over the rows of the log's blocks.

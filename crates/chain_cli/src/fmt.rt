@@ -1,10 +1,25 @@
 //! The commands `fmt` and `fmt 2`: the canonical text of a contract, or its first fault.
 
 ghost use Rattle.lc_base.specs.Faults.{HasCause};
-ghost use Rattle.std.specs.Prelude.{◌≡◌, ◌≤◌, ℕ, List, [], ◌∷◌, ◌++◌, length, string_bytes, Some, IfOk, IfSome, OnOk, IsErrOf};
+ghost use Rattle.std.specs.Prelude.{
+  ◌≡◌,
+  ◌≤◌,
+  ℕ,
+  List,
+  [],
+  ◌∷◌,
+  ◌++◌,
+  length,
+  string_bytes,
+  Some,
+  IfOk,
+  IfSome,
+  OnOk,
+  IsErrOf,
+};
 ghost use Rattle.contract_tree.specs.Tree.{contract_of};
 ghost use Rattle.contract_check.specs.Faults.{check_fault};
-ghost use Rattle.cli_append.specs.cli_lines.{
+ghost use Rattle.cli_lines.specs.{
   declared.whole.TheConstants.{MAX_WHOLE_INPUT_BYTES},
   Lines.{syntax_word, syntax_cause, check_word, check_cause},
   Outcome.{status_of, bad_input},
@@ -18,12 +33,14 @@ ghost use Rattle.cli_output.specs.{
   Texts.{last_line, lines_after, lines_of},
 };
 
-use cli_append::{Ending, Outcome, read_whole};
+use cli_lines::{Ending, Outcome, read_whole};
 use cli_output::OutcomeStop;
 use cli_words::Edition;
 use contract_check::{CheckError, CheckKind, check};
-use contract_parse::{Contract, FIRST_EDITION, SECOND_EDITION, SyntaxError, SyntaxKind, parse};
+use contract_parse::{SyntaxError, SyntaxKind, parse};
 use contract_print::print;
+use contract_tokens::{FIRST_EDITION, SECOND_EDITION};
+use contract_tree::Contract;
 use lc_base::{Bytes, Memory, Seq};
 use lc_io::Source;
 use std::alloc::{AllocError, Global};

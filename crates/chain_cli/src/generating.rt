@@ -4,15 +4,15 @@ ghost use Rattle.std.specs.Prelude.{◌≡◌, [], ◌∷◌, map, is_ok, IfOk, 
 ghost use Rattle.lc_base.specs.Faults.{HasCause};
 ghost use Rattle.disk_model.specs.Leaving.{LeavesDisk};
 ghost use Rattle.block_log.specs.Standing.{NextBlock};
-ghost use Rattle.chain_gen.specs.Generator.{blocks_of_seed};
-ghost use Rattle.crash_promises.specs.Promises.{plain, Telling};
+ghost use Rattle.chain_pack.specs.Generator.{blocks_of_seed};
+ghost use Rattle.cli_append.specs.cli_promises.Promises.{plain, Telling};
 ghost use Rattle.cli_output.specs.{Blocks.{frame}, Telling.{OnlyTells}};
 
 use crate::packing::frame;
 use block_codec::{NO_PARENT, block_digest};
-use chain_gen::Gen;
-use cli_append::Ending;
-use cli_output::RunStop;
+use chain_pack::Gen;
+use cli_append::RunStop;
+use cli_lines::Ending;
 use cli_words::Generation;
 use lc_base::Memory;
 use lc_io::{Failed, Wire};

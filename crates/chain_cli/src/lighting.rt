@@ -2,24 +2,23 @@
 
 ghost use Rattle.std.specs.Prelude.{◌≡◌, ℕ, List, Option, Some, IsErrOf};
 ghost use Rattle.lc_base.specs.Faults.{HasCause};
-ghost use Rattle.lc_io.specs.Disk.{Stays};
+ghost use Rattle.lc_io.specs.{Disk.{Stays}, Scratch.{is_known}};
 ghost use Rattle.disk_model.specs.Disk.{IsSettled};
 ghost use Rattle.block_codec.specs.Reading.{block_in};
-ghost use Rattle.cli_append.specs.chain_exec.Compiled.{compiled_in};
-ghost use Rattle.scratch_model.specs.Scratch.{is_known};
+ghost use Rattle.chain_exec.specs.Compiled.{compiled_in};
 ghost use Rattle.cli_words.specs.declared.words.Command.TheVariants.{MakeLight};
 ghost use Rattle.cli_output.specs.{
   Running.{IsRun, MayEnd},
   Telling.{status_of_result},
 };
 
-use cli_append::{Ending, Node};
-use cli_lights::make_light as tell_light;
-use cli_output::{RunStop, start_outcome, tell};
+use cli_append::{Node, RunStop};
+use cli_lines::Ending;
+use cli_output::{start_outcome, tell};
+use cli_proofs::make_light as tell_light;
 use disk_model::Disk;
-use lc_io::Wire;
-use resources::Resources;
-use scratch_model::Scratch;
+use lc_base::Resources;
+use lc_io::{Scratch, Wire};
 
 /// Prints the light file of the log's blocks, piece by piece; or that the disk holds no log.
 pub fn make_light<M: Disk + Wire, S: Scratch>(

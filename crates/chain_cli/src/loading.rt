@@ -2,17 +2,16 @@
 
 ghost use Rattle.std.specs.Prelude.{◌≡◌, true, IfOk, IsErrOf};
 ghost use Rattle.lc_base.specs.Faults.{HasCause};
-ghost use Rattle.scratch_model.specs.Scratch.{is_known};
-ghost use Rattle.cli_append.specs.chain_exec.Compiled.{compiled_in};
+ghost use Rattle.lc_io.specs.Scratch.{is_known};
+ghost use Rattle.chain_exec.specs.Compiled.{compiled_in};
 ghost use Rattle.cli_words.specs.Words.{IsCount};
 ghost use Rattle.cli_output.specs.Output.{load_outcome};
 
-use cli_append::{Ending, Outcome};
+use cli_lines::{Ending, Outcome};
 use cli_output::{OutcomeStop, load_chain, load_line};
 use cli_words::Generation;
-use lc_base::HostError;
-use resources::Resources;
-use scratch_model::Scratch;
+use lc_base::{HostError, Resources};
+use lc_io::Scratch;
 
 /// The outcome of `load` for these blocks.
 pub fn load_outcome<S: Scratch>(

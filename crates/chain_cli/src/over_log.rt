@@ -6,15 +6,15 @@ ghost use Rattle.lc_base.specs.Faults.{HasCause};
 ghost use Rattle.disk_model.specs.Disk.{IsSettled, Keeps, content_of};
 ghost use Rattle.block_codec.specs.{Reading.{block_in}, declared.block.Block.{Block as Blocks}};
 ghost use Rattle.block_log.specs.Log.{next_in_log};
-ghost use Rattle.cli_append.specs.chain_exec.Compiled.{compiled_in};
+ghost use Rattle.chain_exec.specs.Compiled.{compiled_in};
 ghost use Rattle.chain_replay.specs.Chain.{ChainState, StandsFor};
-ghost use Rattle.scratch_model.specs.Scratch.{is_known};
-ghost use Rattle.cli_append.specs.recovery.Node.{next_in_chain};
-ghost use Rattle.crash_promises.specs.Promises.{MayLeaveAny};
-ghost use Rattle.cli_traces.specs.cli_proofs.{
-  Exposing.{ledger_kept},
-  merkle_dag.Lineage.{ledger_in},
+ghost use Rattle.lc_io.specs.Scratch.{is_known};
+ghost use Rattle.cli_append.specs.{
+  recovery.Node.{next_in_chain},
+  cli_promises.Promises.{MayLeaveAny},
 };
+ghost use Rattle.cli_proofs.specs.Exposing.{ledger_kept};
+ghost use Rattle.merkle_dag.specs.Lineage.{ledger_in};
 ghost use Rattle.cli_output.specs.{
   Output.{answer_outcome, root_outcome, at_or_last},
   Running.{IsRun, IsSilent, MayEnd, found_no_log},
@@ -25,15 +25,14 @@ ghost use Rattle.cli_output.specs.{
 
 use crate::scan::whole_outcome;
 use chain_replay::Chain;
-use cli_append::{Ending, Outcome, RunEnd, append, root_line, start, upgrade};
-use cli_output::{RunStop, beyond, follow, start_outcome, tell};
-use cli_traces::Lineage;
+use cli_append::{RunEnd, RunStop, append, follow, start, upgrade};
+use cli_lines::{Ending, Outcome, root_line};
+use cli_output::{beyond, start_outcome, tell};
 use cli_words::Command;
 use disk_model::Disk;
-use lc_base::{Key, Kind, Memory, Query};
-use lc_io::{Source, Wire};
-use resources::Resources;
-use scratch_model::Scratch;
+use lc_base::{Key, Kind, Memory, Query, Resources};
+use lc_io::{Scratch, Source, Wire};
+use merkle_dag::Lineage;
 use std::alloc::Global;
 
 /// How the commands `append` and `follow` end, by the result of taking all frames.

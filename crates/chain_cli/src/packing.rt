@@ -2,7 +2,7 @@
 
 ghost use Rattle.std.specs.Prelude.{◌≡◌, true, map, Some, IfOk, IfSome, IsErrOf};
 ghost use Rattle.lc_base.specs.Faults.{HasCause};
-ghost use Rattle.cli_append.specs.cli_lines.Outcome.{status_of};
+ghost use Rattle.cli_lines.specs.Outcome.{status_of};
 ghost use Rattle.block_codec.specs.Spelling.{is_version};
 ghost use Rattle.chain_pack.specs.Draft.{texts_of_draft};
 ghost use Rattle.cli_words.specs.declared.words.Command.TheVariants.{Pack};
@@ -17,7 +17,7 @@ ghost use Rattle.cli_output.specs.{
 use block_codec::{FIRST_VERSION, SECOND_VERSION};
 use byte_fields::put_u32;
 use chain_pack::{PackError, pack as blocks_of};
-use cli_append::{Ending, Outcome, read_whole};
+use cli_lines::{Ending, Outcome, read_whole};
 use cli_output::OutcomeStop;
 use cli_words::BlockVersion;
 use lc_base::{Bytes, Memory, Seq, TextList};

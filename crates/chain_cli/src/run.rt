@@ -1,20 +1,33 @@
 //! The top call: everything that the program does follows from the words, the input and the disk.
 
-ghost use Rattle.std.specs.Prelude.{◌≡◌, ℕ, List, Option, Some, map, string_bytes, true, false, IfSome, IsErrOf};
+ghost use Rattle.std.specs.Prelude.{
+  ◌≡◌,
+  ℕ,
+  List,
+  Option,
+  Some,
+  map,
+  string_bytes,
+  true,
+  false,
+  IfSome,
+  IsErrOf,
+};
 ghost use Rattle.lc_base.specs.{Faults.{HasCause}, declared.answer.Query.{Query}};
-ghost use Rattle.lc_io.specs.Disk.{Stays};
+ghost use Rattle.lc_io.specs.{Disk.{Stays}, Scratch.{is_known}};
 ghost use Rattle.disk_model.specs.Disk.{IsSettled, Keeps, content_of};
 ghost use Rattle.byte_fields.specs.Spelling.{IsBytes};
 ghost use Rattle.block_codec.specs.{Reading.{block_in}, Spelling.{Decoder, IsDecoder}};
 ghost use Rattle.block_log.specs.Log.{next_in_log};
-ghost use Rattle.cli_append.specs.chain_exec.Compiled.{Compiler, IsCompiler, compiled_in};
+ghost use Rattle.chain_exec.specs.Compiled.{Compiler, IsCompiler, compiled_in};
 ghost use Rattle.cli_words.specs.{
   declared.words.Command.{Command as Commands},
   Words.{CanBeGiven, IsCommand, IsOneCommand},
 };
-ghost use Rattle.scratch_model.specs.Scratch.{is_known};
-ghost use Rattle.cli_append.specs.recovery.Node.{next_in_chain};
-ghost use Rattle.crash_promises.specs.Promises.{MayLeaveAny};
+ghost use Rattle.cli_append.specs.{
+  recovery.Node.{next_in_chain},
+  cli_promises.Promises.{MayLeaveAny},
+};
 ghost use Rattle.cli_output.specs.{
   Output.{FormatsAgain, IsWanted, IsOneOutput, log_next_by, next_by},
   Running.{IsRun, IsSilent, MayEnd, found_no_log},
@@ -35,14 +48,14 @@ use crate::answering::find;
 use crate::generating::generate;
 use crate::lighting::make_light;
 use crate::over_log::change_log;
-use cli_append::{Ending, Status};
-use cli_lights::light;
-use cli_output::{RunStop, status_of_stop, tell, tell_usage};
+use cli_append::RunStop;
+use cli_lines::{Ending, Status};
+use cli_output::{status_of_stop, tell, tell_usage};
+use cli_proofs::light;
 use cli_words::{Command, command_of};
 use disk_model::Disk;
-use lc_io::{Source, Wire};
-use resources::Resources;
-use scratch_model::Scratch;
+use lc_base::Resources;
+use lc_io::{Scratch, Source, Wire};
 
 /// Runs a command. What is found for one that prints at its end is printed once all of it is made.
 fn run_command<I: Source, M: Disk + Wire, S: Scratch>(

@@ -4,7 +4,7 @@ ghost use Rattle.lc_base.specs.Faults.{HasCause};
 ghost use Rattle.std.specs.Prelude.{◌≡◌, [], ◌∷◌, IfOk, IfSome, List, Some, IsErrOf};
 ghost use Rattle.block_codec.specs.{Reading.{block_in}, declared.block.Block.{Block as Blocks}};
 ghost use Rattle.chain_replay.specs.Chain.{StandsFor, placement_in};
-ghost use Rattle.cli_append.specs.cli_lines.{Outcome.{status_of, outcome_with}, Lines.{refused_line}};
+ghost use Rattle.cli_lines.specs.{Outcome.{status_of, outcome_with}, Lines.{refused_line}};
 ghost use Rattle.cli_words.specs.declared.words.Command.TheVariants.{Scan};
 ghost use Rattle.cli_output.specs.{
   Output.{answer_outcome, scan_output},
@@ -12,16 +12,15 @@ ghost use Rattle.cli_output.specs.{
   Scanning.{GivesOutput, EndsAsked},
   Telling.{OnlyReads},
 };
-ghost use Rattle.cli_append.specs.chain_exec.Compiled.{compiled_in};
+ghost use Rattle.chain_exec.specs.Compiled.{compiled_in};
 ghost use Rattle.chain_input.specs.Folding.{fold_input};
 
 use chain_input::{Cause, Folded, fold};
 use chain_replay::{Chain, Replay};
-use cli_append::{Ending, Outcome, answer_lines, refused_line};
+use cli_lines::{Ending, Outcome, answer_lines, refused_line};
 use cli_output::{OutcomeStop, beyond};
-use lc_base::{Memory, Query};
+use lc_base::{Memory, Query, Resources};
 use lc_io::Source;
-use resources::Resources;
 use std::alloc::Global;
 
 /// The outcome for a refused frame.

@@ -15,7 +15,7 @@ use Rattle.world_state.specs.Known.{Known}
 use Rattle.world_state.specs.Rows.{entry_of, is_staged}
 use Rattle.world_state.specs.World.{newest_of, StandsForRows}
 use Rattle.world_state.specs.declared.held.Held.{Held}
-use Rattle.contract_semantics.specs.Answers.{place_in}
+use Rattle.contract_eval.specs.contract_semantics.Answers.{place_in}
 use Rattle.block_codec.specs.declared.block.Tx.{Tx}
 use Rattle.chain_exec.specs.declared.receipt.Receipt.{Receipt}
 use Rattle.chain_exec.specs.declared.staging.TxRun.{TxRun}

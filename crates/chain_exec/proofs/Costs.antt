@@ -11,11 +11,13 @@ use Rattle.lc_base.specs.declared.row.Row.{Row}
 use Rattle.lc_base.specs.declared.tx_status.TxStatus.TheVariants as statuses
 use Rattle.lc_base.specs.declared.value.Value.{Value}
 use Rattle.contract_tree.specs.Tree.{FunctionTree}
-use Rattle.contract_semantics.specs.Calls.{refused_call, call_ended, call_result, function_run}
-use Rattle.contract_semantics.specs.Calls.{function_called, function_of_name, are_arguments}
-use Rattle.contract_semantics.specs.Scenes.{Scene, scene_of}
-use Rattle.contract_semantics.specs.Statements.{Ending}
-use Rattle.contract_semantics.specs.Steps.{Step, Done, Failed}
+use Rattle.contract_eval.specs.contract_semantics.Calls.{refused_call, call_ended, call_result}
+use Rattle.contract_eval.specs.contract_semantics.Calls.{function_run}
+use Rattle.contract_eval.specs.contract_semantics.Calls.{function_called, function_of_name}
+use Rattle.contract_eval.specs.contract_semantics.Calls.{are_arguments}
+use Rattle.contract_eval.specs.contract_semantics.Scenes.{Scene, scene_of}
+use Rattle.contract_eval.specs.contract_semantics.Statements.{Ending}
+use Rattle.contract_eval.specs.contract_semantics.Steps.{Step, Done, Failed}
 use Rattle.block_codec.specs.declared.block.Tx.{Tx}
 use Rattle.block_codec.specs.declared.block.Tx.TheVariants.{Set, Deploy, Call}
 use Rattle.block_codec.specs.Placement.{tx_budget}

@@ -11,8 +11,8 @@ use Rattle.lc_base.specs.declared.row.Dep.{Dep}
 use Rattle.lc_base.specs.declared.row.Row.{Row}
 use Rattle.contract_tree.specs.declared.tree.Contract.{Contract}
 use Rattle.contract_tree.specs.Tree.{contract_of}
-use Rattle.contract_semantics.specs.Scenes.{scene_of}
-use Rattle.contract_semantics.specs.declared.site.CallSite.{CallSite}
+use Rattle.contract_eval.specs.contract_semantics.Scenes.{scene_of}
+use Rattle.contract_eval.specs.contract_semantics.declared.site.CallSite.{CallSite}
 use Rattle.block_codec.specs.declared.block.Tx.{Tx}
 use Rattle.block_codec.specs.declared.block.Tx.TheVariants.{Set, Deploy, Call}
 use Rattle.world_state.specs.Known.{Known}

@@ -15,9 +15,9 @@ use Rattle.lc_base.specs.History.{below, newest, StandsBefore, HasLawfulDeps}
 use Rattle.contract_tree.specs.Tree.{FunctionTree}
 use Rattle.dep_capture.specs.Captured.{Captured}
 use Rattle.world_state.specs.Rows.{held_of, held_in}
-use Rattle.contract_semantics.specs.Calls.{call_result, rows_written}
-use Rattle.contract_semantics.specs.Reading.{block_of}
-use Rattle.contract_semantics.specs.Scenes.{Scene, scene_of}
+use Rattle.contract_eval.specs.contract_semantics.Calls.{call_result, rows_written}
+use Rattle.contract_eval.specs.contract_semantics.Reading.{block_of}
+use Rattle.contract_eval.specs.contract_semantics.Scenes.{Scene, scene_of}
 use Rattle.block_codec.specs.declared.block.Tx.TheVariants.{Set, Deploy, Call}
 use Rattle.block_codec.specs.declared.block.Block.{Block}
 use Rattle.chain_exec.specs.BlockRows.{IsOnNewest, HasNewestDeps}

@@ -18,10 +18,10 @@ use Rattle.dep_capture.specs.Capture.{row_of_put, rows_of_puts}
 use Rattle.world_state.specs.Known.{Known}
 use Rattle.world_state.specs.World.{newest_of, is_written}
 use Rattle.world_state.specs.declared.held.Held.{Held}
-use Rattle.contract_semantics.specs.Answers.{place_in, IsFaithful}
-use Rattle.contract_semantics.specs.Calls.{rows_written}
-use Rattle.contract_semantics.specs.Reading.{block_of}
-use Rattle.contract_semantics.specs.Scenes.{Place}
+use Rattle.contract_eval.specs.contract_semantics.Answers.{place_in, IsFaithful}
+use Rattle.contract_eval.specs.contract_semantics.Calls.{rows_written}
+use Rattle.contract_eval.specs.contract_semantics.Reading.{block_of}
+use Rattle.contract_eval.specs.contract_semantics.Scenes.{Place}
 use Rattle.chain_exec.specs.BlockRows.{IsOnNewest, HasNewestDeps, AreTxRows}
 use Rattle.chain_exec.specs.Effect.{meets_conflict}
 use Rattle.chain_exec.specs.Running.{dep_in, deps_in}

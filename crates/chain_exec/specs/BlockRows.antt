@@ -7,8 +7,8 @@ use Rattle.lc_base.specs.declared.row.Dep.{Dep}
 use Rattle.lc_base.specs.declared.row.Row.{Row}
 use Rattle.dep_capture.specs.declared.limits.TheConstants.{MAX_KEYS_PUT}
 use Rattle.world_state.specs.declared.held.Held.{Held}
-use Rattle.contract_semantics.specs.Reading.{block_of}
-use Rattle.contract_semantics.specs.Scenes.{Place}
+use Rattle.contract_eval.specs.contract_semantics.Reading.{block_of}
+use Rattle.contract_eval.specs.contract_semantics.Scenes.{Place}
 use Rattle.block_codec.specs.Placement.{tx_budget}
 use Rattle.block_codec.specs.declared.block.Tx.{Tx}
 use Rattle.chain_exec.specs.declared.receipt.Receipt.{Receipt}

@@ -3,8 +3,8 @@ use Rattle.std.specs.Prelude.{◌≡◌, ℕ, List, Option, Some, None, Ok, Err}
 use Rattle.contract_tree.specs.Tree.{FunctionTree}
 use Rattle.contract_parse.specs.Syntax.{Outcome, IsOutcome}
 use Rattle.contract_parse.proofs.Outcomes.{some_outcome}
-use Rattle.contract_check.specs.declared.fault.Fault.{Fault}
-use Rattle.contract_check.specs.Faults.{check_fault}
+use Rattle.contract_eval.specs.contract_check.declared.fault.Fault.{Fault}
+use Rattle.contract_eval.specs.contract_check.Faults.{check_fault}
 
 -- A compiler of one edition of the language maps a source to the functions of its contract, or to
 -- None if it is refused.

@@ -12,8 +12,8 @@ use Rattle.lc_base.specs.declared.value.Value.{Value}
 use Rattle.lc_base.specs.declared.tx_status.TxStatus.{TxStatus}
 use Rattle.lc_base.specs.declared.tx_status.TxStatus.TheVariants as statuses
 use Rattle.contract_tree.specs.Tree.{FunctionTree}
-use Rattle.contract_semantics.specs.Scenes.{Scene, scene_of}
-use Rattle.contract_semantics.specs.Calls.{CallResult, call_result, rows_written}
+use Rattle.contract_eval.specs.contract_semantics.Scenes.{Scene, scene_of}
+use Rattle.contract_eval.specs.contract_semantics.Calls.{CallResult, call_result, rows_written}
 use Rattle.world_state.specs.World.{is_raw}
 use Rattle.block_codec.specs.declared.block.Tx.{Tx}
 use Rattle.block_codec.specs.declared.block.Tx.TheVariants.{Set, Deploy, Call}

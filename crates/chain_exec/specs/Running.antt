@@ -8,8 +8,8 @@ use Rattle.lc_base.specs.declared.row.Row.{Row}
 use Rattle.lc_base.specs.declared.value.Value.{Value}
 use Rattle.contract_tree.specs.declared.tree.Contract.{Contract}
 use Rattle.contract_tree.specs.Tree.{FunctionTree, contract_of}
-use Rattle.contract_semantics.specs.declared.site.CallSite.{CallSite}
-use Rattle.contract_semantics.specs.Scenes.{Scene, scene_of}
+use Rattle.contract_eval.specs.contract_semantics.declared.site.CallSite.{CallSite}
+use Rattle.contract_eval.specs.contract_semantics.Scenes.{Scene, scene_of}
 use Rattle.world_state.specs.Known.{Known}
 use Rattle.world_state.specs.Rows.{entry_of}
 use Rattle.world_state.specs.World.{newest_of, is_written, code_of, is_taken}

@@ -22,7 +22,7 @@ use crate::receipt::{Receipt, ReceiptList};
 use crate::staging::TxRun;
 use crate::transaction::run_transaction;
 use block_codec::{Block, Tx};
-use contract_check::Checked;
+use contract_eval::Checked;
 use lc_base::{Host, HostError, Memory, RowList};
 use std::alloc::Global;
 use world_state::World;

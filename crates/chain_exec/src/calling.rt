@@ -5,7 +5,10 @@ ghost use Rattle.lc_base.specs.Faults.{HasCause};
 ghost use Rattle.contract_tree.specs.Tree.{contract_of};
 ghost use Rattle.dep_capture.specs.Captured.{AreLawfulRows};
 ghost use Rattle.world_state.specs.World.{StandsForRows};
-ghost use Rattle.contract_semantics.specs.{Answers.{place_in}, Calls.{rows_written}};
+ghost use Rattle.contract_eval.specs.{
+  contract_semantics.Answers.{place_in},
+  contract_semantics.Calls.{rows_written},
+};
 ghost use Rattle.chain_exec.specs.{
   BlockRows.{AreTxRows},
   Effect.{result_effect, call_effect},
@@ -14,9 +17,7 @@ ghost use Rattle.chain_exec.specs.{
 
 use crate::receipt::Receipt;
 use crate::staging::{TxRun, or_memory, stage, without_rows};
-use contract_check::Checked;
-use contract_eval::call;
-use contract_semantics::{CallSite, Outcome};
+use contract_eval::{CallSite, Checked, Outcome, call};
 use dep_capture::Capture;
 use lc_base::{Host, HostError, Memory, RowList, TxStatus, ValueList};
 use std::alloc::Global;

@@ -5,7 +5,7 @@ ghost use Rattle.std.specs.{
   Option.{option_map},
 };
 ghost use Rattle.contract_tree.specs.Tree.{contract_of};
-ghost use Rattle.contract_check.specs.Faults.{check_fault};
+ghost use Rattle.contract_eval.specs.contract_check.Faults.{check_fault};
 ghost use Rattle.chain_exec.specs.{
   Compiled.{faultless, compiled_in},
   Effect.{free},
@@ -13,7 +13,7 @@ ghost use Rattle.chain_exec.specs.{
 };
 
 use crate::staging::{TxRun, without_rows};
-use contract_check::{CheckError, Checked, check};
+use contract_eval::{CheckError, Checked, check};
 use contract_parse::{SyntaxError, parse};
 use contract_tree::Contract;
 use lc_base::{Memory, Name, TxStatus};

@@ -12,7 +12,7 @@ mod staging;
 mod transaction;
 
 pub use block::{BlockRun, run_block};
-pub use contract_check::Checked;
+pub use contract_eval::Checked;
 pub use laws::{
     blocks_keep_lawful, costs_are_within_budgets, failures_leave_nothing, one_compiler,
     receipts_ignore_indexes, replay_grows,

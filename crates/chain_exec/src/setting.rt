@@ -5,7 +5,7 @@ ghost use Rattle.std.specs.{
   List.{starts_with, list_any, filter_map},
 };
 ghost use Rattle.lc_base.specs.declared.limits.TheConstants.{MAX_DEPS};
-ghost use Rattle.contract_semantics.specs.Answers.{place_in};
+ghost use Rattle.contract_eval.specs.contract_semantics.Answers.{place_in};
 ghost use Rattle.chain_exec.specs.{
   BlockRows.{AreTxRows},
   Effect.{meets_conflict},
@@ -15,7 +15,7 @@ ghost use Rattle.world_state.specs.World.{is_written};
 
 use crate::receipt::Receipt;
 use crate::staging::{TxRun, free, stage, without_rows};
-use contract_check::Checked;
+use contract_eval::Checked;
 use lc_base::{Dep, DepList, Duplicate, Key, Memory, Row, RowList, TxStatus, Value};
 use std::alloc::{AllocError, Global};
 use world_state::World;

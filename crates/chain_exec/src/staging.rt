@@ -5,7 +5,7 @@ ghost use Rattle.std.specs.Prelude.{◌≡◌, [], Ok, IfOk, OnOk, IsErrOf};
 ghost use Rattle.chain_exec.specs.{Effect.{free}, Running.{StagesRows}};
 
 use crate::receipt::Receipt;
-use contract_check::Checked;
+use contract_eval::Checked;
 use lc_base::{HostError, Memory, RowList, TxStatus};
 use std::alloc::Global;
 use world_state::World;

@@ -4,7 +4,7 @@ ghost use Rattle.std.specs.Prelude.{◌≡◌, ◌≤◌, IfSome, IfOk, IsErrOf}
 ghost use Rattle.lc_base.specs.Faults.{HasCause};
 ghost use Rattle.block_codec.specs.Spelling.{IsTx, text_limit};
 ghost use Rattle.world_state.specs.World.{StandsForRows};
-ghost use Rattle.contract_semantics.specs.Answers.{place_in};
+ghost use Rattle.contract_eval.specs.contract_semantics.Answers.{place_in};
 ghost use Rattle.chain_exec.specs.{
   BlockRows.{AreTxRows, IsWithinBudget},
   Running.{effect_in, StagesRows, HasEffect},
@@ -15,8 +15,7 @@ use crate::deploying::run_deploy;
 use crate::setting::run_set;
 use crate::staging::{TxRun, or_memory};
 use block_codec::Tx;
-use contract_check::Checked;
-use contract_semantics::CallSite;
+use contract_eval::{CallSite, Checked};
 use lc_base::{Host, HostError};
 use std::alloc::Global;
 use world_state::World;

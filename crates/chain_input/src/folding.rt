@@ -3,8 +3,8 @@
 ghost use Rattle.lc_base.specs.Faults.{HasCause};
 ghost use Rattle.std.specs.Prelude.{◌≡◌, List, IfOk, IfSome, IsErrOf};
 ghost use Rattle.block_codec.specs.{Reading.{block_in}, declared.block.Block.{Block as Blocks}};
-ghost use Rattle.chain_replay.specs.chain_exec.Compiled.{compiled_in};
 ghost use Rattle.chain_replay.specs.{
+  chain_exec.Compiled.{compiled_in},
   Chain.{placement_in},
   Judging.{judgement_of, IsJudged, IfNext, IsNextBlock},
 };
@@ -17,9 +17,8 @@ use crate::cause::Cause;
 use crate::taking::{FrameTaker, InputEnd, InputStop, Turn, take_frames};
 use block_codec::FIRST_VERSION;
 use chain_replay::{Chain, Judged, Marking, Replay};
-use lc_base::{HostError, Memory};
+use lc_base::{HostError, Memory, Resources};
 use lc_io::Source;
-use resources::Resources;
 use std::alloc::Global;
 
 /// How the frames of an input end.

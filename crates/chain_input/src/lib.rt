@@ -5,7 +5,6 @@ mod cause;
 mod folding;
 mod taking;
 
-pub use block_codec::Misplaced;
 pub use cause::{Cause, cause_of};
 pub use chain_replay::Refusal;
 pub use folding::{Folded, fold};

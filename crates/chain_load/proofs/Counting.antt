@@ -7,8 +7,8 @@ use Rattle.std.proofs.lemmas.List.{map_push}
 use Rattle.std.proofs.lemmas.List.Sums.{sum_by_push}
 use native.Mathlib.Numerals.{unary_clauses}
 use Rattle.lc_base.specs.declared.row.Row.{Row}
-use Rattle.chain_gen.specs.Draws.{draw_list}
-use Rattle.chain_gen.specs.Generator.{Progress, standing_at}
+use Rattle.chain_pack.specs.Draws.{draw_list}
+use Rattle.chain_pack.specs.Generator.{Progress, standing_at}
 use Rattle.lc_base.specs.declared.limits.TheConstants.{MAX_TEXT_BYTES}
 use Rattle.chain_load.specs.Lookups.{Lookup, lookup_drawn, lookups_drawn, looked_at, bytes_found}
 use Rattle.chain_load.specs.Lookups.{greatest}

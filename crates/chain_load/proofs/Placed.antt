@@ -17,10 +17,10 @@ use Rattle.rooted_chain.specs.chain_exec.Compiled.{compiled_in}
 use Rattle.rooted_chain.specs.chain_exec.Effect.{History}
 use Rattle.rooted_chain.specs.chain_exec.Replay.{replay}
 use Rattle.rooted_chain.specs.chain_replay.Chain.{ChainState, HasRoom, StandsFor, nothing_kept, placement_in}
-use Rattle.chain_gen.specs.declared.limits.TheConstants.{MAX_TXS_MADE}
-use Rattle.chain_gen.specs.Generator.{Progress, block_drawn, first_blocks, progress}
-use Rattle.chain_gen.specs.Generator.{IsPlaced}
-use Rattle.chain_gen.proofs.Generating.{made_more, made_fit}
+use Rattle.chain_pack.specs.declared.limits.TheConstants.{MAX_TXS_MADE}
+use Rattle.chain_pack.specs.Generator.{Progress, block_drawn, first_blocks, progress}
+use Rattle.chain_pack.specs.Generator.{IsPlaced}
+use Rattle.chain_pack.proofs.Generating.{made_more, made_fit}
 use Rattle.chain_load.specs.Building.{HasAdded}
 
 -- ---- the first blocks of a seed

@@ -8,8 +8,8 @@ use Rattle.lc_base.specs.declared.row.Row.{Row}
 use Rattle.rooted_chain.specs.chain_exec.Compiled.{compiled_in}
 use Rattle.rooted_chain.specs.chain_replay.Chain.{ChainState, StandsFor}
 use Rattle.rooted_chain.specs.Roots.{root_in}
-use Rattle.chain_gen.specs.Draws.{draw_list}
-use Rattle.chain_gen.specs.Generator.{Progress, first_blocks, progress}
+use Rattle.chain_pack.specs.Draws.{draw_list}
+use Rattle.chain_pack.specs.Generator.{Progress, first_blocks, progress}
 use Rattle.chain_load.specs.Lookups.{lookup_drawn, lookups_drawn, looked_at, bytes_found}
 use Rattle.chain_load.specs.Lookups.{lookup_counts}
 use Rattle.chain_load.specs.Loads.{blocks_of, rows_of, counts_of, bytes_of, load_of}

@@ -4,8 +4,8 @@ use Rattle.lc_base.specs.declared.digest.Digest.{Digest}
 use Rattle.dep_capture.specs.declared.limits.TheConstants.{MAX_KEYS_PUT}
 use Rattle.block_codec.specs.Placement.{digest_of}
 use Rattle.rooted_chain.specs.chain_replay.Chain.{ChainState, StandsFor}
-use Rattle.chain_gen.specs.declared.limits.TheConstants.{MAX_TXS_MADE}
-use Rattle.chain_gen.specs.Generator.{Progress, first_blocks, progress}
+use Rattle.chain_pack.specs.declared.limits.TheConstants.{MAX_TXS_MADE}
+use Rattle.chain_pack.specs.Generator.{Progress, first_blocks, progress}
 
 -- The chain holds the first `added` blocks of a seed, which the generator has made; the last of
 -- them is the parent of the next one. What these blocks did is known only if it is known which

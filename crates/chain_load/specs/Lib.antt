@@ -1,4 +1,3 @@
 pub mod Lookups
 pub mod Building
 pub mod Loads
-pub use Rattle.rooted_chain.specs as rooted_chain

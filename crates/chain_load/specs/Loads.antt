@@ -6,7 +6,7 @@ use Rattle.block_codec.specs.declared.block.Block.{Block}
 use Rattle.rooted_chain.specs.chain_exec.Compiled.{Compiler}
 use Rattle.rooted_chain.specs.chain_exec.Replay.{replay}
 use Rattle.rooted_chain.specs.Roots.{root_in}
-use Rattle.chain_gen.specs.Generator.{first_blocks}
+use Rattle.chain_pack.specs.Generator.{first_blocks}
 use Rattle.chain_load.specs.declared.loading.Load.{Load}
 use Rattle.chain_load.specs.Lookups.{Lookup, lookups_drawn, looked_at, bytes_found, greatest}
 

@@ -11,7 +11,7 @@ use Rattle.lc_base.specs.History.{scan}
 use Rattle.lc_base.specs.Parts.{question}
 use Rattle.skip_links.specs.Paths.{path}
 use Rattle.rooted_chain.specs.merkle_dag.Lineage.{LineageState}
-use Rattle.chain_gen.specs.Draws.{number_below, key_drawn, draw_list}
+use Rattle.chain_pack.specs.Draws.{number_below, key_drawn, draw_list}
 use Rattle.chain_load.specs.declared.looking.LookupCounts.{LookupCounts}
 
 -- A look-up of the versions of a key in the blocks up to this one.

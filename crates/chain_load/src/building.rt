@@ -1,9 +1,24 @@
 //! Building the chain of a seed: each block is made with the digest of the one before as its
 //! parent.
 
-ghost use Rattle.std.specs.Prelude.{◌≡◌, ℕ, ◌+◌, ◌*◌, ◌<◌, ◌≤◌, true, List, [], ◌∷◌, ◌++◌, length, IfOk, IsErrOf};
+ghost use Rattle.std.specs.Prelude.{
+  ◌≡◌,
+  ℕ,
+  ◌+◌,
+  ◌*◌,
+  ◌<◌,
+  ◌≤◌,
+  true,
+  List,
+  [],
+  ◌∷◌,
+  ◌++◌,
+  length,
+  IfOk,
+  IsErrOf,
+};
 ghost use Rattle.lc_base.specs.Faults.{HasCause};
-ghost use Rattle.scratch_model.specs.Scratch.{is_known, Retains};
+ghost use Rattle.lc_io.specs.Scratch.{is_known, Retains};
 ghost use Rattle.dep_capture.specs.declared.limits.TheConstants.{MAX_KEYS_PUT};
 ghost use Rattle.block_codec.specs.{
   Placement.{digest_of},
@@ -12,19 +27,20 @@ ghost use Rattle.block_codec.specs.{
   declared.limits.TheConstants.{MAX_BLOCKS},
   declared.placement.Placement.TheVariants.{Next},
 };
-ghost use Rattle.rooted_chain.specs.chain_exec.Compiled.{compiled_in};
-ghost use Rattle.rooted_chain.specs.chain_replay.Chain.{placement_in, HasRoom, StandsFor};
-ghost use Rattle.rooted_chain.specs.merkle_dag.Lineage.{AgreesWith};
-ghost use Rattle.rooted_chain.specs.Roots.{kept_in, lineage_in};
-ghost use Rattle.chain_gen.specs.Generator.{first_blocks, progress};
+ghost use Rattle.rooted_chain.specs.{
+  chain_exec.Compiled.{compiled_in},
+  chain_replay.Chain.{placement_in, HasRoom, StandsFor},
+  merkle_dag.Lineage.{AgreesWith},
+  Roots.{kept_in, lineage_in},
+};
+ghost use Rattle.chain_pack.specs.Generator.{first_blocks, progress};
 ghost use Rattle.chain_load.specs.Building.{HasAdded};
 
 use block_codec::{DecodeError, NO_PARENT, block_digest, decode};
-use chain_gen::Gen;
-use lc_base::{Digest, HostError, Memory};
-use resources::Resources;
+use chain_pack::Gen;
+use lc_base::{Digest, HostError, Memory, Resources};
+use lc_io::Scratch;
 use rooted_chain::{LineageChain, Replay};
-use scratch_model::Scratch;
 use std::alloc::Global;
 
 /// Adds the block that these bytes spell, which is the chain's next one. On an error the chain is

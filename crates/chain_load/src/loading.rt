@@ -2,23 +2,24 @@
 
 ghost use Rattle.std.specs.Prelude.{◌≡◌, ℕ, ◌<◌, ◌≤◌, ◌+◌, ◌-◌, ◌*◌, true, length, IfOk, IsErrOf};
 ghost use Rattle.lc_base.specs.Faults.{HasCause};
-ghost use Rattle.scratch_model.specs.Scratch.{is_known, Retains};
+ghost use Rattle.lc_io.specs.Scratch.{is_known, Retains};
 ghost use Rattle.skip_links.specs.Paths.{binary_digits};
 ghost use Rattle.block_codec.specs.declared.limits.TheConstants.{MAX_BLOCKS};
-ghost use Rattle.rooted_chain.specs.chain_exec.Compiled.{compiled_in};
-ghost use Rattle.rooted_chain.specs.chain_replay.Chain.{StandsFor};
-ghost use Rattle.rooted_chain.specs.merkle_dag.Lineage.{AgreesWith};
-ghost use Rattle.rooted_chain.specs.Roots.{kept_in, lineage_in, root_in};
-ghost use Rattle.chain_gen.specs.Generator.{first_blocks, progress};
+ghost use Rattle.rooted_chain.specs.{
+  chain_exec.Compiled.{compiled_in},
+  chain_replay.Chain.{StandsFor},
+  merkle_dag.Lineage.{AgreesWith},
+  Roots.{kept_in, lineage_in, root_in},
+};
+ghost use Rattle.chain_pack.specs.Generator.{first_blocks, progress};
 ghost use Rattle.chain_load.specs.Loads.{load_of};
 
 use crate::building::chain_made;
 use crate::looking::look_up_all;
-use chain_gen::Gen;
-use lc_base::{Digest, HostError};
-use resources::Resources;
+use chain_pack::Gen;
+use lc_base::{Digest, HostError, Resources};
+use lc_io::Scratch;
 use rooted_chain::LineageChain;
-use scratch_model::Scratch;
 use std::alloc::Global;
 
 /// What a load reports.

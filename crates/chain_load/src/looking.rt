@@ -5,23 +5,23 @@ ghost use Rattle.std.specs.{
   List.{sum},
 };
 ghost use Rattle.lc_base.specs.{History.{scan}, declared.limits.TheConstants.{MAX_TEXT_BYTES}};
-ghost use Rattle.scratch_model.specs.Scratch.{is_known};
+ghost use Rattle.lc_io.specs.Scratch.{is_known};
 ghost use Rattle.skip_links.specs.Paths.{path};
 ghost use Rattle.rooted_chain.specs.merkle_dag.{
   Ledger.{most_looked_at},
   Lineage.{AgreesWith, LeavesLineage},
 };
-ghost use Rattle.chain_gen.specs.Generator.{standing_at};
+ghost use Rattle.chain_pack.specs.Generator.{standing_at};
 ghost use Rattle.chain_load.specs.{
   Lookups.{CanBeLookedUp, lookup_drawn, lookups_drawn, looked_at, lookup_counts},
   Lookups.{bytes_of_value, bytes_of_answer, bytes_found},
 };
 
-use chain_gen::Gen;
+use chain_pack::Gen;
 use lc_base::{Answer, HostError, Kind, Query, Value};
-use lineage_host::{QueryError, Steps, ask};
-use rooted_chain::Lineage;
-use scratch_model::Scratch;
+use lc_io::Scratch;
+use lineage_index::Steps;
+use rooted_chain::{Lineage, QueryError, ask};
 use std::alloc::Global;
 
 /// Counts over look-ups.

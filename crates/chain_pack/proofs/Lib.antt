@@ -1,5 +1,10 @@
-pub mod Limits
+pub mod DraftLimits
 pub mod Texts
 pub mod Folding
 pub mod Views
 pub mod Each
+pub mod Numbers
+pub mod Keys
+pub mod Repeated
+pub mod Small
+pub mod Generating

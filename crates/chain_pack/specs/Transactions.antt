@@ -3,8 +3,8 @@ use Rattle.std.specs.Prelude.{ℕ, ◌+◌, ◌==◌, ◌&&◌, nat_le, is_none,
 use Rattle.std.specs.Result.{result_ok}
 use Rattle.serde_json.specs.Data.{Data}
 use Rattle.serde_json.specs.Find.{get, as_number, as_str, as_i64, as_u64}
-use Rattle.lc_names.specs.Key.{key_of}
-use Rattle.lc_names.specs.Name.{name_of}
+use Rattle.lc_base.specs.Key.{key_of}
+use Rattle.lc_base.specs.Name.{name_of}
 use Rattle.lc_base.specs.TextBytes.{bad_text_byte}
 use Rattle.lc_base.specs.declared.limits.TheConstants.{MAX_DEPS}
 use Rattle.lc_base.specs.declared.value.Value.{Value}

@@ -7,8 +7,10 @@ ghost use Rattle.block_codec.specs.{
   Spelling.{is_version, text_limit, IsTx, IsBlock, Spells},
   declared.limits.TheConstants.{MAX_TXS},
 };
-ghost use Rattle.chain_pack.specs.Transactions.{each, tx_in};
-ghost use Rattle.chain_pack.specs.Draft.{pack_fault, at_block, txs_in, text_of, text_in, IsBlockText};
+ghost use Rattle.chain_pack.specs.{
+  Transactions.{each, tx_in},
+  Draft.{pack_fault, at_block, txs_in, text_of, text_in, IsBlockText},
+};
 
 use crate::error::PackError;
 use crate::fields::items_in;
@@ -62,7 +64,7 @@ fn without_spare(alloc: Global, text: &Bytes) -> Result<Bytes, Memory>
     Ok(Bytes::from_vec(Vec::from_slice(alloc, text.as_bytes())?))
 }
 
-#[tactic(auto, using(crate::proofs::Limits::is_long))]
+#[tactic(auto, using(crate::proofs::DraftLimits::is_long))]
 fn text_of(alloc: Global, block: &Block) -> Result<Bytes, PackError>
     requires { IsBlock block.now }
     ensures text { Answers (λ text. text) pack_fault result (text_of block.now) }

@@ -2,8 +2,11 @@
 
 ghost use Rattle.std.specs.{Prelude.{◌≡◌, ◌≤◌, map, length, IfOk}, Option.{option_map}};
 ghost use Rattle.serde_json.specs.View.{view};
-ghost use Rattle.lc_names.specs.{KeyBytes.{IsKey}, NameBytes.{IsName}};
-ghost use Rattle.lc_base.specs.declared.limits.TheConstants.{MAX_TEXT_BYTES};
+ghost use Rattle.lc_base.specs.{
+  KeyBytes.{IsKey},
+  NameBytes.{IsName},
+  declared.limits.TheConstants.{MAX_TEXT_BYTES},
+};
 ghost use Rattle.byte_fields.specs.Spelling.{IsBlockValue};
 ghost use Rattle.block_codec.specs.declared.limits.TheConstants.{MAX_CALL_BUDGET, MAX_SOURCE_BYTES};
 ghost use Rattle.chain_pack.specs.{

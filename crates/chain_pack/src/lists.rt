@@ -6,8 +6,7 @@ ghost use Rattle.std.specs.{
   List.{AllByRecursion},
 };
 ghost use Rattle.serde_json.specs.{Data.{Data}, View.{view}};
-ghost use Rattle.lc_names.specs.KeyBytes.{IsKey};
-ghost use Rattle.lc_base.specs.declared.limits.TheConstants.{MAX_TEXT_BYTES};
+ghost use Rattle.lc_base.specs.{KeyBytes.{IsKey}, declared.limits.TheConstants.{MAX_TEXT_BYTES}};
 ghost use Rattle.byte_fields.specs.Spelling.{IsBlockValue};
 ghost use Rattle.chain_pack.specs.{
   Transactions.{each, all_in, key_in, value_in},

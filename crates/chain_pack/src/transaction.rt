@@ -5,8 +5,10 @@ ghost use Rattle.std.specs.{
   List.{AllByRecursion},
 };
 ghost use Rattle.serde_json.specs.{Find.{get}, View.{view}};
-ghost use Rattle.lc_names.specs.KeyBytes.{IsKey};
-ghost use Rattle.lc_base.specs.declared.limits.TheConstants.{MAX_DEPS, MAX_TEXT_BYTES};
+ghost use Rattle.lc_base.specs.{
+  KeyBytes.{IsKey},
+  declared.limits.TheConstants.{MAX_DEPS, MAX_TEXT_BYTES},
+};
 ghost use Rattle.block_codec.specs.Spelling.{IsTx};
 ghost use Rattle.chain_pack.specs.{
   Transactions.{set_with, set_in, deploy_in, call_in, tx_by, tx_in},

@@ -11,7 +11,7 @@ use Rattle.block_codec.specs.declared.limits.TheConstants.{MAX_MARKED_BLOCKS, MA
 use Rattle.block_codec.specs.declared.block.Block.{Block}
 use Rattle.block_codec.specs.declared.placement.Placement.{Placement}
 use Rattle.block_codec.specs.declared.placement.Placement.TheVariants as placements
-use Rattle.scratch_model.specs.Scratch.{ScratchState, is_known}
+use Rattle.lc_io.specs.Scratch.{ScratchState, is_known}
 use Rattle.contract_tree.specs.declared.tree.Contract.{Contract}
 use Rattle.world_state.specs.Known.{Known}
 use Rattle.world_state.specs.World.{StandsForRows}

@@ -13,10 +13,9 @@ ghost use Rattle.chain_replay.specs.Chain.{nothing_kept, placement_in, HasRoom, 
 use crate::replaying::Replay;
 use block_codec::{Block, NO_PARENT, Placement, place};
 use chain_exec::{BlockRun, Checked, run_block};
-use lc_base::{Answer, Digest, DigestList, HostError, Memory, Query, RowList};
+use lc_base::{Answer, Digest, DigestList, HostError, Memory, Query, Resources, RowList};
+use lc_io::Scratch;
 use plain_rows::PlainRows;
-use resources::Resources;
-use scratch_model::Scratch;
 use std::alloc::Global;
 use std::marker::Model;
 use world_state::World;
@@ -170,7 +169,7 @@ impl Replay for Chain {
         )
     }
 
-    #[tactic(auto, using(scratch_model::proofs::Retaining::retains_refl))]
+    #[tactic(auto, using(lc_io::proofs::Retaining::retains_refl))]
     fn replay<S: Scratch>(
         self,
         alloc: Global,

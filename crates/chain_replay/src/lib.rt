@@ -8,7 +8,7 @@ mod refusal;
 mod replaying;
 
 pub use chain::Chain;
-pub use chain_exec::{BlockRun, ReceiptList, run_block};
+pub use chain_exec::{BlockRun, Receipt, ReceiptList, run_block};
 pub use judging::Judged;
 pub use marking::Marking;
 pub use refusal::Refusal;

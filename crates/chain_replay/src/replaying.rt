@@ -1,7 +1,19 @@
 //! What every chain can do, wherever it keeps its rows: place a block, judge bytes, and run the
 //! next block.
 
-ghost use Rattle.std.specs.Prelude.{◌≡◌, ◌≤◌, Bool, false, List, [], ◌∷◌, ◌++◌, length, IfOk, IsErrOf};
+ghost use Rattle.std.specs.Prelude.{
+  ◌≡◌,
+  ◌≤◌,
+  Bool,
+  false,
+  List,
+  [],
+  ◌∷◌,
+  ◌++◌,
+  length,
+  IfOk,
+  IsErrOf,
+};
 ghost use Rattle.lc_base.specs.{
   Faults.{HasCause},
   declared.host_error.HostError.TheVariants.{Fault},
@@ -17,15 +29,14 @@ ghost use Rattle.chain_replay.specs.{
   Chain.{ChainState, nothing_kept, placement_by_mark, placement_in, placement_kept, HasRoom, IsKnownFor, StandsFor},
   Judging.{judgement_of, most_blocks_for, placement_for, IsJudged, IfNext, IsNextBlock},
 };
-ghost use Rattle.scratch_model.specs.Scratch.{ScratchState, Retains};
+ghost use Rattle.lc_io.specs.Scratch.{ScratchState, Retains};
 
 use crate::judging::{Judged, judge_block};
 use crate::marking::Marking;
 use crate::refusal::Refusal;
 use block_codec::{Block, DecodeError, Placement, block_digest, decode};
-use lc_base::{Digest, HostError, Memory};
-use resources::Resources;
-use scratch_model::Scratch;
+use lc_base::{Digest, HostError, Memory, Resources};
+use lc_io::Scratch;
 use std::alloc::Global;
 
 /// What is kept of a chain while its blocks run one after another. A scratch device may keep a part

@@ -12,9 +12,9 @@ use Rattle.block_log.specs.Standing.{Logged, nothing_logged, with_blocks, logged
 use Rattle.block_log.specs.Standing.{chain_of, blocks_in}
 use Rattle.block_log.specs.Log.{LogState, Agrees, AgreesWithBlocks, AgreesWithBlank, next_in_log}
 use Rattle.block_log.proofs.Resting.{rests_at, rests_keeps, rests_some, told_some}
-use Rattle.recovery.specs.Node.{IsLogStepOf}
-use Rattle.cli_append.specs.Appending.{Grows}
-use Rattle.cli_append.proofs.Frames.{with_none}
+use Rattle.cli_promises.specs.recovery.Node.{IsLogStepOf}
+use Rattle.cli_promises.specs.Appending.{Grows}
+use Rattle.cli_promises.proofs.Resting.{with_none}
 
 -- ---- chains that go on
 

@@ -1,29 +1,32 @@
 -- One frame: what was printed for it, and what a crash may leave.
 use Rattle.std.proofs.Common.{◌≡◌, inr, ℕ, Bool, true, false, List, [], ◌∷◌, ◌++◌, refl, sym, ◌∙◌}
-use Rattle.std.proofs.Common.{ap, subst, append-nil}
+use Rattle.std.proofs.Common.{ap, subst}
 use Rattle.std.specs.Prelude.{Option, Some, None, Result, Ok, Err}
 use Rattle.lc_io.specs.Disk.{DiskState, Stays}
 use Rattle.lc_io.specs.Outside.{Tell}
-use Rattle.disk_model.specs.Disk.{IsImage, Keeps, Rests, content_of}
-use Rattle.disk_model.proofs.Images.{settled_image}
+use Rattle.disk_model.specs.Disk.{Keeps, Rests, content_of}
 use Rattle.disk_model.proofs.Moments.{then_keeps, weaker, stays_here}
 use Rattle.block_codec.specs.declared.block.Block.{Block}
 use Rattle.block_log.specs.Standing.{Logged, with_blocks}
 use Rattle.block_log.specs.Log.{LogState}
 use Rattle.chain_exec.specs.Compiled.{compiled_in}
-use Rattle.recovery.specs.chain_replay.Judging.{Taken, Known, Added, judgement_of, added_by}
-use Rattle.recovery.specs.chain_replay.declared.refusal.Refusal.{Refusal}
-use Rattle.recovery.specs.Node.{NodeState, HoldsChain, IsNodeOf, IsStepOf, IsAppended, was_added}
-use Rattle.recovery.specs.Node.{blocks_after, next_in_chain, chain_in, stored_placement}
-use Rattle.recovery.specs.Node.{logged_in}
-use Rattle.recovery.specs.declared.node.Appended.{Appended}
-use Rattle.recovery.specs.declared.node.Appended.TheVariants as appendeds
-use Rattle.crash_promises.specs.Promises.{Promise, IsKeptAt, Telling}
-use Rattle.crash_promises.proofs.Tellings.{none_told, none_to_tell, still, told_since}
-use Rattle.crash_promises.proofs.Sure.{sure_kept}
-use Rattle.cli_append.specs.Appending.{IsKnown, line_of}
-use Rattle.cli_append.specs.Steps.{appended_text, lines_for, added_for, Takes}
-use Rattle.cli_append.specs.declared.ending.RunStop.{RunStop}
+use Rattle.chain_replay.specs.Judging.{Taken, Known, Added, judgement_of, added_by}
+use Rattle.chain_replay.specs.declared.refusal.Refusal.{Refusal}
+use Rattle.cli_promises.specs.recovery.Node.{NodeState, HoldsChain, IsNodeOf, IsStepOf, IsAppended}
+use Rattle.cli_promises.specs.recovery.Node.{was_added}
+use Rattle.cli_promises.specs.recovery.Node.{blocks_after, next_in_chain, chain_in}
+use Rattle.cli_promises.specs.recovery.Node.{stored_placement}
+use Rattle.cli_promises.specs.recovery.Node.{logged_in}
+use Rattle.cli_promises.specs.recovery.declared.node.Appended.{Appended}
+use Rattle.cli_promises.specs.recovery.declared.node.Appended.TheVariants as appendeds
+use Rattle.cli_promises.specs.Promises.{Promise, IsKeptAt, Telling}
+use Rattle.cli_promises.proofs.Tellings.{none_told, none_to_tell, still, told_since}
+use Rattle.cli_promises.proofs.Sure.{sure_kept}
+use Rattle.cli_promises.proofs.Resting.{rests_each}
+use Rattle.cli_promises.specs.Appending.{IsKnown, line_of}
+use Rattle.cli_promises.specs.Lines.{appended_text}
+use Rattle.cli_append.specs.Steps.{lines_for, added_for, Takes}
+use Rattle.cli_promises.specs.declared.ending.RunStop.{RunStop}
 use Rattle.chain_input.specs.declared.taking.Turn.{Turn}
 use Rattle.chain_input.specs.declared.taking.Turn.TheVariants as turns
 use Rattle.cli_append.proofs.Promised.{line_sure}
@@ -46,20 +49,6 @@ stands_at log logged (Some state) same rests = (
     marked = m;
   })) same,
 )
-
--- a chain with no more blocks is the same
-pub with_none : (logged : Logged) → with_blocks logged [] ≡ logged
-with_none logged =
-    ap (λ (blocks : List Block). record { blocks = blocks; marked = logged.marked })
-    (append-nil logged.blocks)
-
--- if nothing is pending, each image that a crash may leave is the content
-pub rests_each : (state : Option DiskState) (P : List ℕ → Type 0) → Rests state P
-    → (s : DiskState) (image : List ℕ) → state ≡ Some s → IsImage s image → P image
-rests_each state P rests s image is at =
-    let r = subst (λ (o : Option DiskState). Rests o P) is rests in
-    subst P (sym (settled_image s.content image (subst (λ (u : DiskState). IsImage u image) r.0
-    at))) r.1
 
 -- what is printed for a frame that was taken is its line
 pub took : (old node : NodeState) (appended : Appended) (blocks : List Block)

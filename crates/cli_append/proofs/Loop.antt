@@ -14,31 +14,33 @@ use Rattle.block_codec.specs.declared.limits.TheConstants.{MAX_FRAMES}
 use Rattle.block_codec.specs.declared.block.Block.{Block}
 use Rattle.block_log.specs.Standing.{Logged}
 use Rattle.chain_exec.specs.Compiled.{compiled_in}
-use Rattle.recovery.specs.chain_replay.Judging.{Taken, judgement_of, added_by, added_by_all}
-use Rattle.recovery.specs.chain_replay.declared.refusal.Refusal.{Refusal}
-use Rattle.cli_lines.specs.Lines.{refused_line}
-use Rattle.cli_lines.specs.chain_input.Folding.{Fold, FoldEnd, Whole, Refused, ends_at}
-use Rattle.cli_lines.specs.chain_input.Folding.{taken_before, fold_after_frame, fold_step}
-use Rattle.cli_lines.specs.chain_input.Folding.{fold_from}
-use Rattle.cli_lines.specs.chain_input.declared.cause.Cause.{Cause}
-use Rattle.cli_lines.specs.chain_input.declared.cause.Cause.TheVariants as causes
-use Rattle.recovery.specs.Node.{NodeState, IsNodeOf, IsStepOf, next_in_chain, chain_in}
-use Rattle.recovery.specs.Node.{stored_placement, logged_in}
-use Rattle.crash_promises.specs.Promises.{Line, plain, IsPartly, Telling}
-use Rattle.crash_promises.proofs.Tellings.{join, longer, still}
-use Rattle.crash_promises.proofs.Sure.{all_sure_kept, partly_more, partly_held}
-use Rattle.cli_append.specs.Appending.{IsKnown, line_of, lines_of, end_lines, fold_lines, fold_end}
-use Rattle.cli_append.specs.Appending.{HasEnded, AppendsAll, GoesFrom}
+use Rattle.chain_replay.specs.Judging.{Taken, judgement_of, added_by, added_by_all}
+use Rattle.chain_replay.specs.declared.refusal.Refusal.{Refusal}
+use Rattle.cli_promises.specs.cli_lines.Lines.{refused_line}
+use Rattle.chain_input.specs.Folding.{Fold, FoldEnd, Whole, Refused, ends_at}
+use Rattle.chain_input.specs.Folding.{taken_before, fold_after_frame, fold_step}
+use Rattle.chain_input.specs.Folding.{fold_from}
+use Rattle.chain_input.specs.declared.cause.Cause.{Cause}
+use Rattle.chain_input.specs.declared.cause.Cause.TheVariants as causes
+use Rattle.cli_promises.specs.recovery.Node.{NodeState, IsNodeOf, IsStepOf, next_in_chain, chain_in}
+use Rattle.cli_promises.specs.recovery.Node.{stored_placement, logged_in}
+use Rattle.cli_promises.specs.Promises.{Line, plain, IsPartly, Telling}
+use Rattle.cli_promises.proofs.Tellings.{join, longer, still}
+use Rattle.cli_promises.proofs.Sure.{all_sure_kept, partly_more, partly_held}
+use Rattle.cli_promises.specs.Appending.{IsKnown, line_of, lines_of, end_lines, fold_lines}
+use Rattle.cli_promises.specs.Appending.{fold_end}
+use Rattle.cli_promises.specs.Appending.{HasEnded, AppendsAll, GoesFrom}
 use Rattle.chain_input.specs.declared.taking.Turn.{Turn}
 use Rattle.chain_input.specs.declared.taking.Turn.TheVariants as turns
 use Rattle.chain_input.proofs.Folds.{folded_turn, taken_taken, FoldEnds, whole_ends}
 use Rattle.cli_append.specs.Steps.{lines_for, added_for, Takes}
-use Rattle.cli_append.specs.declared.ending.RunEnd.{RunEnd}
-use Rattle.cli_append.specs.declared.ending.RunEnd.TheVariants as ends
-use Rattle.cli_append.specs.declared.ending.RunStop.{RunStop}
+use Rattle.cli_promises.specs.declared.ending.RunEnd.{RunEnd}
+use Rattle.cli_promises.specs.declared.ending.RunEnd.TheVariants as ends
+use Rattle.cli_promises.specs.declared.ending.RunStop.{RunStop}
 use Rattle.cli_append.proofs.Stored.{Stored, held, nothing_stored, then_frame, then_stop}
 use Rattle.cli_append.proofs.Promised.{added_append, added_push, lines_append}
-use Rattle.cli_append.proofs.Frames.{rests_each, stands_at, still_known, with_none, takes_by}
+use Rattle.cli_promises.proofs.Resting.{rests_each, with_none}
+use Rattle.cli_append.proofs.Frames.{stands_at, still_known, takes_by}
 
 -- ---- the fold
 

@@ -13,12 +13,12 @@ use Rattle.block_codec.proofs.Placements.{known_is_held, next_has_passed}
 use Rattle.block_log.specs.Standing.{Logged, with_blocks}
 use Rattle.chain_exec.specs.Compiled.{compiled_in}
 use Rattle.chain_exec.specs.Replay.{replay}
-use Rattle.recovery.specs.Node.{stored_placement}
-use Rattle.recovery.specs.chain_replay.Judging.{Taken, Known, Added, judgement_of}
-use Rattle.recovery.specs.chain_replay.Judging.{judged_by_placement, added_by, added_by_all}
-use Rattle.crash_promises.specs.Promises.{Line}
-use Rattle.crash_promises.proofs.Sure.{IsSure}
-use Rattle.cli_append.specs.Appending.{line_of, lines_of}
+use Rattle.cli_promises.specs.recovery.Node.{stored_placement}
+use Rattle.chain_replay.specs.Judging.{Taken, Known, Added, judgement_of}
+use Rattle.chain_replay.specs.Judging.{judged_by_placement, added_by, added_by_all}
+use Rattle.cli_promises.specs.Promises.{Line}
+use Rattle.cli_promises.proofs.Sure.{IsSure}
+use Rattle.cli_promises.specs.Appending.{line_of, lines_of}
 
 -- ---- the line of a frame
 

@@ -10,20 +10,21 @@ use Rattle.disk_model.proofs.Moments.{started, then_keeps, weaker, stays_on, sta
 use Rattle.block_codec.specs.declared.block.Block.{Block}
 use Rattle.block_log.specs.Standing.{Logged}
 use Rattle.chain_exec.specs.Compiled.{compiled_in}
-use Rattle.recovery.specs.chain_replay.Judging.{Taken, judgement_of, added_by}
-use Rattle.recovery.specs.chain_replay.declared.refusal.Refusal.{Refusal}
-use Rattle.recovery.specs.Node.{NodeState, IsNodeOf, IsStepOf, next_in_chain, chain_in}
-use Rattle.recovery.specs.Node.{stored_placement}
-use Rattle.crash_promises.specs.Promises.{Line, KeepsLines, IsPartly, Telling}
-use Rattle.crash_promises.proofs.Tellings.{none_to_tell, join}
-use Rattle.crash_promises.proofs.Sure.{AreSure, all_sure_more, sure_push, all_sure_kept}
-use Rattle.crash_promises.proofs.Sure.{partly_more, partly_held, partly_longer}
-use Rattle.cli_append.specs.Appending.{IsKnown, line_of}
+use Rattle.chain_replay.specs.Judging.{Taken, judgement_of, added_by}
+use Rattle.chain_replay.specs.declared.refusal.Refusal.{Refusal}
+use Rattle.cli_promises.specs.recovery.Node.{NodeState, IsNodeOf, IsStepOf, next_in_chain, chain_in}
+use Rattle.cli_promises.specs.recovery.Node.{stored_placement}
+use Rattle.cli_promises.specs.Promises.{Line, KeepsLines, IsPartly, Telling}
+use Rattle.cli_promises.proofs.Tellings.{none_to_tell, join}
+use Rattle.cli_promises.proofs.Sure.{AreSure, all_sure_more, sure_push, all_sure_kept}
+use Rattle.cli_promises.proofs.Sure.{partly_more, partly_held, partly_longer}
+use Rattle.cli_promises.specs.Appending.{IsKnown, line_of}
 use Rattle.chain_input.specs.declared.taking.Turn.TheVariants as turns
 use Rattle.cli_append.specs.Steps.{lines_for, added_for, Takes}
-use Rattle.cli_append.specs.declared.ending.RunStop.{RunStop}
+use Rattle.cli_promises.specs.declared.ending.RunStop.{RunStop}
 use Rattle.cli_append.proofs.Promised.{line_sure}
-use Rattle.cli_append.proofs.Frames.{rests_each, stands_at, still_known, with_none}
+use Rattle.cli_promises.proofs.Resting.{rests_each, with_none}
+use Rattle.cli_append.proofs.Frames.{stands_at, still_known}
 
 -- ---- one frame that was judged
 

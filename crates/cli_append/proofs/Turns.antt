@@ -5,8 +5,8 @@ use Rattle.lc_base.specs.Faults.{HasCause}
 use Rattle.lc_io.specs.Disk.{DiskState, Stays}
 use Rattle.lc_io.specs.Outside.{Tell}
 use Rattle.disk_model.specs.Disk.{Keeps, content_of}
-use Rattle.scratch_model.specs.Scratch.{ScratchState, is_known, Retains}
-use Rattle.scratch_model.proofs.Retaining.{retains_refl, retains_trans}
+use Rattle.lc_io.specs.Scratch.{ScratchState, is_known, Retains}
+use Rattle.lc_io.proofs.Retaining.{retains_refl, retains_trans}
 use Rattle.block_codec.specs.Reading.{block_in}
 use Rattle.block_codec.specs.declared.limits.TheConstants.{MAX_FRAMES}
 use Rattle.block_codec.specs.declared.block.Block.{Block}
@@ -23,17 +23,18 @@ use Rattle.chain_input.specs.declared.taking.InputStop.{InputStop}
 use Rattle.chain_input.specs.declared.taking.InputStop.TheVariants as stopped
 use Rattle.chain_input.proofs.Taken.{carried, at_end, blames}
 use Rattle.chain_input.proofs.Folds.{refused_ends}
-use Rattle.recovery.specs.Node.{NodeState, IsNodeOf, IsReady, next_in_chain, stored_placement}
-use Rattle.recovery.specs.Node.{logged_in}
-use Rattle.recovery.specs.chain_replay.Judging.{judgement_of}
-use Rattle.crash_promises.specs.Promises.{plain, Telling}
-use Rattle.cli_lines.specs.Lines.{refused_line}
-use Rattle.cli_append.specs.Appending.{IsKnown, AppendsAll, GoesFrom, Grows}
+use Rattle.cli_promises.specs.recovery.Node.{NodeState, IsNodeOf, IsReady, next_in_chain}
+use Rattle.cli_promises.specs.recovery.Node.{stored_placement}
+use Rattle.cli_promises.specs.recovery.Node.{logged_in}
+use Rattle.chain_replay.specs.Judging.{judgement_of}
+use Rattle.cli_promises.specs.Promises.{plain, Telling}
+use Rattle.cli_promises.specs.cli_lines.Lines.{refused_line}
+use Rattle.cli_promises.specs.Appending.{IsKnown, AppendsAll, GoesFrom, Grows}
 use Rattle.cli_append.specs.Steps.{AppendsFrame}
-use Rattle.cli_append.specs.declared.ending.RunEnd.{RunEnd}
-use Rattle.cli_append.specs.declared.ending.RunEnd.TheVariants as ends
-use Rattle.cli_append.specs.declared.ending.RunStop.{RunStop}
-use Rattle.cli_append.specs.declared.ending.RunStop.TheVariants as stops
+use Rattle.cli_promises.specs.declared.ending.RunEnd.{RunEnd}
+use Rattle.cli_promises.specs.declared.ending.RunEnd.TheVariants as ends
+use Rattle.cli_promises.specs.declared.ending.RunStop.{RunStop}
+use Rattle.cli_promises.specs.declared.ending.RunStop.TheVariants as stops
 use Rattle.cli_append.proofs.Loop.{Progress, begun, goes_on, whole_input, refused_form}
 use Rattle.cli_append.proofs.Loop.{refused_block}
 use Rattle.cli_append.proofs.Loop.{stopped_before, stopped_at, goes_from, goes_step}

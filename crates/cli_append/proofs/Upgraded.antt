@@ -18,17 +18,19 @@ use Rattle.block_log.specs.Standing.{Logged, with_mark, chain_of, next_block, Pl
 use Rattle.block_log.specs.Log.{LogState, Agrees, IsOldOrMarked, StandsBy, log_placement}
 use Rattle.block_log.specs.Log.{next_in_log}
 use Rattle.block_log.proofs.Resting.{rests_at, rests_keeps}
-use Rattle.recovery.specs.chain_replay.Chain.{ChainState, StandsFor}
-use Rattle.recovery.specs.Node.{NodeState, HoldsChain, IsNodeOf, next_in_chain, chain_in, logged_in}
-use Rattle.recovery.specs.Node.{stored_placement}
-use Rattle.recovery.proofs.Placing.{stricter}
-use Rattle.crash_promises.specs.Promises.{Promise, IsMarked, IsKeptAt, Telling}
-use Rattle.crash_promises.proofs.Tellings.{none_told, still, told_since}
-use Rattle.cli_lines.specs.Lines.{already_upgraded_line, upgraded_line}
-use Rattle.cli_append.specs.Appending.{IsKnown, Upgrades, marked_line, upgrade_text}
-use Rattle.cli_append.specs.declared.ending.RunStop.{RunStop}
-use Rattle.cli_append.specs.declared.ending.RunStop.TheVariants as stops
-use Rattle.cli_append.proofs.Frames.{content_known, rests_each, stands_at}
+use Rattle.chain_replay.specs.Chain.{ChainState, StandsFor}
+use Rattle.cli_promises.specs.recovery.Node.{NodeState, HoldsChain, IsNodeOf, next_in_chain}
+use Rattle.cli_promises.specs.recovery.Node.{chain_in, logged_in}
+use Rattle.cli_promises.specs.recovery.Node.{stored_placement}
+use Rattle.cli_promises.proofs.recovery.Placing.{stricter}
+use Rattle.cli_promises.specs.Promises.{Promise, IsMarked, IsKeptAt, Telling}
+use Rattle.cli_promises.proofs.Tellings.{none_told, still, told_since}
+use Rattle.cli_promises.specs.cli_lines.Lines.{already_upgraded_line, upgraded_line}
+use Rattle.cli_promises.specs.Appending.{IsKnown, Upgrades, marked_line, upgrade_text}
+use Rattle.cli_promises.specs.declared.ending.RunStop.{RunStop}
+use Rattle.cli_promises.specs.declared.ending.RunStop.TheVariants as stops
+use Rattle.cli_append.proofs.Frames.{content_known, stands_at}
+use Rattle.cli_promises.proofs.Resting.{rests_each}
 
 -- ---- what the log holds before it is marked
 

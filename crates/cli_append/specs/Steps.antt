@@ -9,26 +9,21 @@ use Rattle.block_codec.specs.Reading.{block_in}
 use Rattle.block_codec.specs.declared.block.Block.{Block}
 use Rattle.block_log.specs.Standing.{Logged}
 use Rattle.block_log.specs.Log.{next_in_log}
-use Rattle.scratch_model.specs.Scratch.{ScratchState, is_known, Retains}
+use Rattle.lc_io.specs.Scratch.{ScratchState, is_known, Retains}
 use Rattle.chain_input.specs.declared.taking.Turn.{Turn}
 use Rattle.chain_input.specs.declared.taking.Turn.TheVariants as turns
 use Rattle.chain_exec.specs.Compiled.{compiled_in}
-use Rattle.recovery.specs.chain_replay.Judging.{Taken, judgement_of, added_by}
-use Rattle.recovery.specs.chain_replay.declared.refusal.Refusal.{Refusal}
-use Rattle.recovery.specs.Node.{NodeState, IsNodeOf, IsReady, IsStepOf, next_in_chain, chain_in}
-use Rattle.recovery.specs.Node.{stored_placement, logged_in}
-use Rattle.recovery.specs.declared.node.Appended.{Appended}
-use Rattle.recovery.specs.declared.node.Appended.TheVariants as appendeds
-use Rattle.crash_promises.specs.Promises.{Line, Telling}
-use Rattle.cli_append.specs.Lines.{known_line, block_line}
-use Rattle.cli_append.specs.Appending.{IsKnown, line_of, Grows}
-use Rattle.cli_append.specs.declared.ending.RunStop.{RunStop}
-use Rattle.cli_append.specs.declared.ending.RunStop.TheVariants as stops
-
--- The line of a block that was not refused.
-abbrev pub appended_text : Appended → List ℕ
-appended_text (appendeds.Known number) = known_line number
-appended_text (appendeds.Added number rows receipts root) = block_line number rows receipts root.0
+use Rattle.chain_replay.specs.Judging.{Taken, judgement_of, added_by}
+use Rattle.chain_replay.specs.declared.refusal.Refusal.{Refusal}
+use Rattle.cli_promises.specs.recovery.Node.{NodeState, IsNodeOf, IsReady, IsStepOf, next_in_chain}
+use Rattle.cli_promises.specs.recovery.Node.{chain_in}
+use Rattle.cli_promises.specs.recovery.Node.{stored_placement, logged_in}
+use Rattle.cli_promises.specs.recovery.declared.node.Appended.{Appended}
+use Rattle.cli_promises.specs.recovery.declared.node.Appended.TheVariants as appendeds
+use Rattle.cli_promises.specs.Promises.{Line, Telling}
+use Rattle.cli_promises.specs.Appending.{IsKnown, line_of, Grows}
+use Rattle.cli_promises.specs.declared.ending.RunStop.{RunStop}
+use Rattle.cli_promises.specs.declared.ending.RunStop.TheVariants as stops
 
 -- ---- one frame
 

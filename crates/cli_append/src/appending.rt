@@ -9,19 +9,20 @@ ghost use Rattle.block_codec.specs.{
 };
 ghost use Rattle.block_log.specs.Log.{next_in_log};
 ghost use Rattle.chain_input.specs.{Folding.{fold_from}, Taking.{TakesInput}};
-ghost use Rattle.scratch_model.specs.Scratch.{is_known, Retains};
-ghost use Rattle.recovery.specs.Node.{IsNodeOf, IsReady, logged_in, stored_placement};
+ghost use Rattle.lc_io.specs.Scratch.{is_known, Retains};
+ghost use Rattle.cli_promises.specs.{
+  recovery.Node.{IsNodeOf, IsReady, logged_in, stored_placement},
+  Appending.{AppendsAll, GoesFrom, Grows, IsKnown},
+};
 ghost use Rattle.disk_model.specs.Disk.{Keeps, content_of};
-ghost use Rattle.cli_append.specs.{Appending.{AppendsAll, GoesFrom, Grows, IsKnown}, Steps.{AppendsFrame}};
+ghost use Rattle.cli_append.specs.Steps.{AppendsFrame};
 
-use crate::ending::{RunEnd, RunStop};
 use crate::taking::Appender;
 use crate::telling::refuse;
 use chain_input::{InputEnd, InputStop, take_frames};
+use cli_promises::{Node, RunEnd, RunStop};
 use disk_model::Disk;
-use lc_io::{Source, Wire};
-use recovery::Node;
-use scratch_model::Scratch;
+use lc_io::{Scratch, Source, Wire};
 use std::alloc::Global;
 
 /// Takes the frames of the input one after another, and says how they end. The line of a refused

@@ -2,20 +2,18 @@
 
 ghost use Rattle.std.specs.Prelude.{◌≡◌, true, ℕ, List, Some, IfOk, IsErr, IsErrOf};
 ghost use Rattle.lc_base.specs.Faults.{HasCause};
-ghost use Rattle.lc_io.specs.Disk.{DiskState, Stays};
+ghost use Rattle.lc_io.specs.{Disk.{DiskState, Stays}, Scratch.{is_known, Serves}};
 ghost use Rattle.disk_model.specs.{
   Disk.{IsImage, IsSettled, Keeps, Syncs, content_of},
   Leaving.{LeavesWire},
 };
 ghost use Rattle.block_log.specs.Standing.{standing};
-ghost use Rattle.scratch_model.specs.Scratch.{is_known, Serves};
-ghost use Rattle.recovery.specs.Node.{IsReady, IsNodeStarted, next_in_chain};
+ghost use Rattle.cli_promises.specs.recovery.Node.{IsReady, IsNodeStarted, next_in_chain};
 
+use cli_promises::{Node, StartError};
 use disk_model::Disk;
-use lc_io::Failed;
-use recovery::{Node, StartError};
-use resources::Resources;
-use scratch_model::Scratch;
+use lc_base::Resources;
+use lc_io::{Failed, Scratch};
 
 /// Syncs a disk, whatever is pending. An earlier run may have ended between a write and its sync,
 /// and without this a loss of power could still take what it wrote.

@@ -8,20 +8,20 @@ ghost use Rattle.lc_base.specs.Faults.{HasCause};
 ghost use Rattle.disk_model.specs.Disk.{Keeps, content_of};
 ghost use Rattle.block_codec.specs.{Reading.{block_in}, declared.block.Block.{Block}};
 ghost use Rattle.block_log.specs.Log.{next_in_log};
-ghost use Rattle.recovery.specs.chain_replay.Judging.{judgement_of};
-ghost use Rattle.scratch_model.specs.Scratch.{is_known, Retains};
-ghost use Rattle.recovery.specs.Node.{IsNodeOf, IsReady, logged_in, stored_placement};
-ghost use Rattle.cli_append.specs.{Appending.{Grows}, Steps.{AppendsFrame, IfLonger, Takes}};
+ghost use Rattle.chain_replay.specs.Judging.{judgement_of};
+ghost use Rattle.lc_io.specs.Scratch.{is_known, Retains};
+ghost use Rattle.cli_promises.specs.{
+  recovery.Node.{IsNodeOf, IsReady, logged_in, stored_placement},
+  Appending.{Grows},
+};
+ghost use Rattle.cli_append.specs.Steps.{AppendsFrame, IfLonger, Takes};
 
-use crate::ending::RunStop;
-use crate::lines::appended_line;
 use crate::telling::tell_line;
 use chain_input::{FrameTaker, Turn};
+use cli_promises::{AppendError, Node, RunStop, appended_line};
 use disk_model::Disk;
 use lc_base::Memory;
-use lc_io::{Failed, Wire};
-use recovery::{AppendError, Node};
-use scratch_model::Scratch;
+use lc_io::{Failed, Scratch, Wire};
 use std::alloc::Global;
 
 /// Discards the node that an error returned, if any.

@@ -4,11 +4,13 @@ ghost use Rattle.std.specs.Prelude.{◌≡◌, [], ◌∷◌, IfOk, IsErr, IsErr
 ghost use Rattle.lc_base.specs.Faults.{HasCause};
 ghost use Rattle.disk_model.specs.Leaving.{LeavesDisk};
 ghost use Rattle.block_log.specs.Standing.{NextBlock};
-ghost use Rattle.cli_lines.specs.Lines.{refused_line as refused_text};
-ghost use Rattle.crash_promises.specs.Promises.{Promise, plain, IsKeptAt, Telling};
+ghost use Rattle.cli_promises.specs.{
+  cli_lines.Lines.{refused_line as refused_text},
+  Promises.{Promise, plain, IsKeptAt, Telling},
+};
 
-use crate::ending::{RunEnd, RunStop};
-use cli_lines::{Cause, refused_line};
+use chain_input::Cause;
+use cli_promises::{RunEnd, RunStop, refused_line};
 use lc_base::Memory;
 use lc_io::{Failed, Wire};
 use std::alloc::Global;

@@ -8,18 +8,18 @@ ghost use Rattle.block_log.specs.{
   Standing.{Logged, NextBlock, chain_of},
   Log.{Agrees, IsOldOrMarked, next_in_log},
 };
-ghost use Rattle.recovery.specs.Node.{IsNodeOf, logged_in};
-ghost use Rattle.crash_promises.specs.Promises.{Promise, IsKeptAt, Telling};
-ghost use Rattle.cli_append.specs.Appending.{Upgrades};
+ghost use Rattle.cli_promises.specs.{
+  recovery.Node.{IsNodeOf, logged_in},
+  Promises.{Promise, IsKeptAt, Telling},
+  Appending.{Upgrades},
+};
 
-use crate::ending::RunStop;
 use crate::telling::tell_line;
 use block_log::DiskFault;
-use cli_lines::{already_upgraded_line, upgraded_line};
+use cli_promises::{Node, RunStop, already_upgraded_line, upgraded_line};
 use disk_model::Disk;
 use lc_base::{Bytes, Memory};
 use lc_io::{Failed, Wire};
-use recovery::Node;
 use std::alloc::Global;
 
 /// Prints the line of a log that is marked.

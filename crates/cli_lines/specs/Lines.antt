@@ -7,15 +7,15 @@ use Rattle.lc_base.specs.declared.answer.Answer.{Answer}
 use Rattle.lc_base.specs.declared.answer.Answer.TheVariants.{Nothing, Hist, Back, Fwd}
 use Rattle.lc_base.specs.declared.row.Dep.{Dep}
 use Rattle.lc_base.specs.declared.row.Version.{Version}
-use Rattle.row_ancestors.specs.declared.trace.Trace.{Trace}
+use Rattle.root_laws.specs.declared.trace.Trace.{Trace}
 use Rattle.contract_parse.specs.declared.source.SyntaxKind.{SyntaxKind}
 use Rattle.contract_parse.specs.declared.source.SyntaxKind.TheVariants as syntax
 use Rattle.contract_check.specs.declared.fault.Fault.{Fault}
 use Rattle.contract_check.specs.declared.fault.CheckKind.{CheckKind}
 use Rattle.contract_check.specs.declared.fault.CheckKind.TheVariants as checks
 use Rattle.hex.specs.Hex.{encode_lower}
-use Rattle.chain_input.specs.block_codec.declared.placement.Misplaced.{Misplaced}
-use Rattle.chain_input.specs.block_codec.declared.placement.Misplaced.TheVariants as misplaced
+use Rattle.block_codec.specs.declared.placement.Misplaced.{Misplaced}
+use Rattle.block_codec.specs.declared.placement.Misplaced.TheVariants as misplaced
 use Rattle.chain_input.specs.chain_replay.declared.refusal.Refusal.{Refusal}
 use Rattle.chain_input.specs.chain_replay.declared.refusal.Refusal.TheVariants as refusals
 use Rattle.chain_input.specs.declared.cause.Cause.{Cause}

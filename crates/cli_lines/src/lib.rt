@@ -7,8 +7,7 @@ mod outcome;
 mod status;
 mod whole;
 
-pub use chain_input::{Cause, cause_of};
-pub use digest_kit::digest_text;
+pub use chain_input::Cause;
 pub use lines::{
     already_upgraded_line, answer_lines, bad_input_line, beyond_line, damaged_line, hex_after,
     line, not_a_log_line, range_lines, refusal_text, refused_line, root_line, trace_lines,

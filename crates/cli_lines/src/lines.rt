@@ -4,13 +4,35 @@ ghost use Rattle.std.specs.{
   Prelude.{◌≡◌, [], ◌∷◌, ◌++◌, codes, decimal, map, string_bytes, IfOk},
   Fmt.{signed_decimal},
 };
-ghost use Rattle.cli_lines.specs.Lines.{usage_line, beyond_line, misplaced_text, refusal_text, cause_text, refused_line, value_text, hist_line, version_line, dep_line, answer_lines, trace_lines, range_lines, bad_input_line, not_a_log_line, damaged_line, upgraded_line, already_upgraded_line, root_line, line};
+ghost use Rattle.cli_lines.specs.Lines.{
+  usage_line,
+  beyond_line,
+  misplaced_text,
+  refusal_text,
+  cause_text,
+  refused_line,
+  value_text,
+  hist_line,
+  version_line,
+  dep_line,
+  answer_lines,
+  trace_lines,
+  range_lines,
+  bad_input_line,
+  not_a_log_line,
+  damaged_line,
+  upgraded_line,
+  already_upgraded_line,
+  root_line,
+  line,
+};
 ghost use Rattle.hex.specs.Hex.{encode_lower};
 
-use chain_input::{Cause, Misplaced, Refusal};
+use block_codec::Misplaced;
+use chain_input::{Cause, Refusal};
 use digest_kit::digest_text;
 use lc_base::{Answer, Bytes, Dep, DepList, Digest, Memory, Seq, Value, Version};
-use row_ancestors::Trace;
+use root_laws::Trace;
 use std::alloc::{AllocError, Global};
 
 /// A line of this text.

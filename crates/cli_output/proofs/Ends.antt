@@ -3,13 +3,13 @@ use Rattle.std.proofs.Common.{◌≡◌, true, [], ◌∷◌, Option, Some, None
 use Rattle.std.proofs.Common.{subst}
 use Rattle.std.specs.Prelude.{IfOk, IfErr}
 use Rattle.cli_words.specs.declared.words.Command.{Command}
-use Rattle.cli_append.specs.cli_lines.Lines.{not_a_log_line, damaged_line}
-use Rattle.cli_append.specs.cli_lines.Outcome.{status_of, outcome_with}
-use Rattle.cli_append.specs.cli_lines.declared.outcome.Outcome.{Outcome}
-use Rattle.cli_append.specs.cli_lines.declared.outcome.Ending.{Ending}
-use Rattle.cli_append.specs.cli_lines.declared.outcome.Ending.TheVariants as endings
-use Rattle.cli_append.specs.recovery.declared.errors.StartError.{StartError}
-use Rattle.cli_append.specs.recovery.declared.errors.StartError.TheVariants as starts
+use Rattle.cli_promises.specs.cli_lines.Lines.{not_a_log_line, damaged_line}
+use Rattle.cli_promises.specs.cli_lines.Outcome.{status_of, outcome_with}
+use Rattle.cli_promises.specs.cli_lines.declared.outcome.Outcome.{Outcome}
+use Rattle.cli_promises.specs.cli_lines.declared.outcome.Ending.{Ending}
+use Rattle.cli_promises.specs.cli_lines.declared.outcome.Ending.TheVariants as endings
+use Rattle.cli_promises.specs.recovery.declared.errors.StartError.{StartError}
+use Rattle.cli_promises.specs.recovery.declared.errors.StartError.TheVariants as starts
 use Rattle.cli_output.specs.Uses.{reads_input, asks_for_block, uses_disk, uses_scratch}
 use Rattle.cli_output.specs.Running.{MayEnd}
 use Rattle.cli_output.specs.Scanning.{EndsAsked}
@@ -17,8 +17,8 @@ use Rattle.cli_output.specs.Telling.{status_of_result, status_of_stop, status_of
 use Rattle.cli_output.specs.Telling.{start_outcome}
 use Rattle.cli_output.specs.declared.stop.OutcomeStop.{OutcomeStop}
 use Rattle.cli_output.specs.declared.stop.OutcomeStop.TheVariants as outcomes
-use Rattle.cli_append.specs.declared.ending.RunStop.{RunStop}
-use Rattle.cli_append.specs.declared.ending.RunStop.TheVariants as stops
+use Rattle.cli_promises.specs.declared.ending.RunStop.{RunStop}
+use Rattle.cli_promises.specs.declared.ending.RunStop.TheVariants as stops
 
 -- an outcome that was printed, or whose printing failed
 told_ends : (outcome : Outcome) (result : Result Ending RunStop) (command : Option Command)

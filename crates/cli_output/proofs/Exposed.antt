@@ -6,25 +6,25 @@ use Rattle.lc_base.specs.declared.answer.Answer.{Answer}
 use Rattle.lc_base.specs.declared.answer.Query.{Query}
 use Rattle.hex.specs.Hex.{decode_of}
 use Rattle.block_codec.specs.declared.block.Block.{Block}
-use Rattle.cli_append.specs.chain_exec.Compiled.{Compiler}
+use Rattle.cli_promises.specs.chain_exec.Compiled.{Compiler}
 use Rattle.proof_codec.specs.declared.proof.Proof.{Proof}
-use Rattle.proof_commands.specs.proof_views.Viewing.{Spells, proof_in}
-use Rattle.proof_commands.proofs.proof_views.Viewed.{is_read}
-use Rattle.light_soundness.specs.replay_soundness.proof_checks.Checks.{verdict}
-use Rattle.light_soundness.specs.replay_soundness.proof_checks.ProofTexts.{proof_texts}
-use Rattle.light_soundness.specs.replay_soundness.proof_checks.declared.reject.Reject.{Reject}
-use Rattle.light_soundness.specs.replay_soundness.proof_checks.declared.reject.Reject.TheVariants.{Malformed}
-use Rattle.text_clashes.specs.FirstClash.{IsFirstClash}
-use Rattle.text_clashes.proofs.OneFirst.{some_first_clash, one_first_clash}
+use Rattle.proof_codec.specs.Viewing.{Spells, proof_in}
+use Rattle.proof_codec.proofs.Viewed.{is_read}
+use Rattle.proof_checks.specs.Checks.{verdict}
+use Rattle.proof_checks.specs.ProofTexts.{proof_texts}
+use Rattle.proof_checks.specs.declared.reject.Reject.{Reject}
+use Rattle.proof_checks.specs.declared.reject.Reject.TheVariants.{Malformed}
+use Rattle.replay_soundness.specs.text_clashes.FirstClash.{IsFirstClash}
+use Rattle.replay_soundness.proofs.text_clashes.OneFirst.{some_first_clash, one_first_clash}
 use Rattle.proof_commands.specs.Verifying.{hex_text, of_verdict, verification, IsVerification}
 use Rattle.proof_commands.specs.Verifying.{OddDigits, NoDigit, NoProof, Judged}
 use Rattle.proof_commands.specs.declared.verification.HexFault.TheVariants.{Odd, At}
 use Rattle.proof_commands.specs.declared.verification.Verification.{Verification}
 use Rattle.proof_commands.specs.declared.verification.Verification.TheVariants.{Rejected, BadHex}
 use Rattle.proof_commands.proofs.Verified.{is_verification, one_answer}
-use Rattle.crash_promises.specs.Promises.{NoChange}
-use Rattle.cli_append.specs.cli_lines.declared.whole.TheConstants.{MAX_WHOLE_INPUT_BYTES}
-use Rattle.light_soundness.specs.replay_soundness.Soundness.{replayed_texts}
+use Rattle.cli_promises.specs.Promises.{NoChange}
+use Rattle.cli_promises.specs.cli_lines.declared.whole.TheConstants.{MAX_WHOLE_INPUT_BYTES}
+use Rattle.replay_soundness.specs.Soundness.{replayed_texts}
 use Rattle.cli_output.specs.Output.{Output, output_of, beyond_head, long_output, Reach}
 use Rattle.cli_output.specs.Output.{IsExposeOutput, OutOfReach, LongExposed, NotAccepted, Exposed}
 use Rattle.cli_output.specs.Proofs.{verification_outcome, is_accepted, IsAcceptedHex, clash_outcome}

@@ -6,11 +6,11 @@ use Rattle.lc_io.specs.Disk.{DiskState}
 use Rattle.disk_model.specs.Disk.{content_of}
 use Rattle.block_codec.specs.Reading.{block_in}
 use Rattle.block_log.specs.Standing.{standing}
-use Rattle.cli_append.specs.chain_exec.Compiled.{compiled_in}
-use Rattle.light_soundness.specs.replay_soundness.chain_replay.Chain.{ChainState}
-use Rattle.cli_append.specs.recovery.Node.{IsChainStored, IsNoStart, next_in_chain}
-use Rattle.cli_append.specs.recovery.declared.errors.StartError.{StartError}
-use Rattle.cli_append.specs.cli_lines.declared.outcome.Outcome.{Outcome}
+use Rattle.cli_promises.specs.chain_exec.Compiled.{compiled_in}
+use Rattle.cli_promises.specs.chain_replay.Chain.{ChainState}
+use Rattle.cli_promises.specs.recovery.Node.{IsChainStored, IsNoStart, next_in_chain}
+use Rattle.cli_promises.specs.recovery.declared.errors.StartError.{StartError}
+use Rattle.cli_promises.specs.cli_lines.declared.outcome.Outcome.{Outcome}
 use Rattle.cli_words.specs.declared.words.Command.{Command}
 use Rattle.cli_words.specs.declared.words.Command.TheVariants.{Scan, Fmt, Pack, Gen, Load, Append}
 use Rattle.cli_words.specs.declared.words.Command.TheVariants.{Follow, Upgrade}

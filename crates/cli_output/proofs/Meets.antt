@@ -11,24 +11,24 @@ use Rattle.block_codec.specs.declared.block.Block.{Block}
 use Rattle.block_log.specs.Standing.{Standing, Blank, NotALog, Damaged, Holds, Logged}
 use Rattle.block_log.specs.Standing.{nothing_logged, logged_of, blocks_in}
 use Rattle.block_log.specs.Standing.{blocks_in}
-use Rattle.cli_append.specs.recovery.Node.{NodeState, IsNodeStarted, IsChainStored, IsNoStart}
-use Rattle.cli_append.specs.recovery.Node.{next_in_chain}
-use Rattle.cli_append.specs.recovery.declared.errors.StartError.{StartError}
-use Rattle.cli_append.specs.recovery.declared.errors.StartError.TheVariants as starts
-use Rattle.crash_promises.specs.Promises.{plain, Change, NoChange, Telling, MayLeave}
-use Rattle.crash_promises.proofs.Tellings.{none_told, still, told_since}
-use Rattle.cli_append.proofs.Frames.{rests_each}
-use Rattle.cli_append.specs.cli_lines.Lines.{not_a_log_line, damaged_line}
-use Rattle.cli_append.specs.cli_lines.Outcome.{status_of, outcome_with}
-use Rattle.cli_append.specs.cli_lines.declared.outcome.Outcome.{Outcome}
-use Rattle.cli_append.specs.cli_lines.declared.outcome.Ending.{Ending}
-use Rattle.cli_append.specs.cli_lines.declared.outcome.Ending.TheVariants as endings
+use Rattle.cli_promises.specs.recovery.Node.{NodeState, IsNodeStarted, IsChainStored, IsNoStart}
+use Rattle.cli_promises.specs.recovery.Node.{next_in_chain}
+use Rattle.cli_promises.specs.recovery.declared.errors.StartError.{StartError}
+use Rattle.cli_promises.specs.recovery.declared.errors.StartError.TheVariants as starts
+use Rattle.cli_promises.specs.Promises.{plain, Change, NoChange, Telling, MayLeave}
+use Rattle.cli_promises.proofs.Tellings.{none_told, still, told_since}
+use Rattle.cli_promises.proofs.Resting.{rests_each}
+use Rattle.cli_promises.specs.cli_lines.Lines.{not_a_log_line, damaged_line}
+use Rattle.cli_promises.specs.cli_lines.Outcome.{status_of, outcome_with}
+use Rattle.cli_promises.specs.cli_lines.declared.outcome.Outcome.{Outcome}
+use Rattle.cli_promises.specs.cli_lines.declared.outcome.Ending.{Ending}
+use Rattle.cli_promises.specs.cli_lines.declared.outcome.Ending.TheVariants as endings
 use Rattle.cli_output.specs.Output.{Output, output_of, on_log, IsOnLog}
 use Rattle.cli_output.specs.Running.{came_to_end, leaves, Meets, IsGiven}
 use Rattle.cli_output.specs.Telling.{status_of_stop, status_of_result, start_outcome, Says}
 use Rattle.cli_output.specs.Telling.{StopsSilent}
-use Rattle.cli_append.specs.declared.ending.RunStop.{RunStop}
-use Rattle.cli_append.specs.declared.ending.RunStop.TheVariants as stops
+use Rattle.cli_promises.specs.declared.ending.RunStop.{RunStop}
+use Rattle.cli_promises.specs.declared.ending.RunStop.TheVariants as stops
 
 -- ---- statuses
 

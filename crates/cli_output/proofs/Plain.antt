@@ -6,8 +6,8 @@ use Rattle.std.proofs.lemmas.List.{map_push}
 use Rattle.lc_io.specs.Disk.{DiskState, Stays}
 use Rattle.lc_io.specs.Outside.{Tell, with_tells}
 use Rattle.block_log.specs.Standing.{NextBlock}
-use Rattle.crash_promises.specs.Promises.{NoPromise, Line, plain, KeepsLines, Telling}
-use Rattle.crash_promises.proofs.Tellings.{join, longer, still, told_ok, told_err}
+use Rattle.cli_promises.specs.Promises.{NoPromise, Line, plain, KeepsLines, Telling}
+use Rattle.cli_promises.proofs.Tellings.{join, longer, still, told_ok, told_err}
 
 plain_kept : (next : NextBlock) (pieces : List (List ℕ)) (image : List ℕ) → KeepsLines next
     (map plain pieces) image

@@ -4,9 +4,9 @@ use Rattle.std.proofs.Common.{List, length, Some, None, ap, ◌∙◌, arith}
 use Rattle.std.specs.Prelude.{if◌then◌else◌, nat_le, nat_lt}
 use Rattle.std.proofs.lemmas.Bool.Decides.{nat_tests}
 use Rattle.block_codec.specs.declared.block.Block.{Block}
-use Rattle.cli_append.specs.cli_lines.Outcome.{outcome_with}
-use Rattle.cli_append.specs.cli_lines.declared.outcome.Outcome.{Outcome}
-use Rattle.cli_append.specs.cli_lines.declared.outcome.Ending.TheVariants as endings
+use Rattle.cli_promises.specs.cli_lines.Outcome.{outcome_with}
+use Rattle.cli_promises.specs.cli_lines.declared.outcome.Outcome.{Outcome}
+use Rattle.cli_promises.specs.cli_lines.declared.outcome.Ending.TheVariants as endings
 use Rattle.cli_output.specs.Output.{beyond_outcome, beyond_head, outcome_at}
 
 -- the chain has the block

@@ -4,15 +4,15 @@ use Rattle.std.proofs.Common.{arith}
 use Rattle.std.specs.Prelude.{IsSomeAnd}
 use Rattle.lc_base.specs.declared.answer.Answer.{Answer}
 use Rattle.lc_base.specs.declared.answer.Query.{Query}
-use Rattle.light_soundness.specs.replay_soundness.proof_checks.Checks.{verdict}
-use Rattle.light_soundness.specs.replay_soundness.proof_checks.ProofTexts.{proof_texts}
-use Rattle.light_soundness.specs.replay_soundness.proof_checks.declared.reject.Reject.{Reject}
-use Rattle.text_clashes.specs.FirstClash.{IsFirstAt}
+use Rattle.proof_checks.specs.Checks.{verdict}
+use Rattle.proof_checks.specs.ProofTexts.{proof_texts}
+use Rattle.proof_checks.specs.declared.reject.Reject.{Reject}
+use Rattle.replay_soundness.specs.text_clashes.FirstClash.{IsFirstAt}
 use Rattle.proof_commands.specs.Verifying.{of_verdict, Judged}
 use Rattle.proof_commands.specs.declared.verification.Verification.TheVariants.{Accepted}
 use Rattle.proof_commands.proofs.Verified.{one_answer}
-use Rattle.light_soundness.specs.replay_soundness.Soundness.{replayed_texts}
-use Rattle.light_soundness.proofs.replay_soundness.Sound.{wrong_answers_are_exposed}
+use Rattle.replay_soundness.specs.Soundness.{replayed_texts}
+use Rattle.replay_soundness.proofs.Sound.{wrong_answers_are_exposed}
 use Rattle.cli_output.specs.Output.{output_of, OutOfReach, LongExposed, NotAccepted, Exposed}
 use Rattle.cli_output.specs.Proofs.{is_accepted, clash_outcome}
 use Rattle.cli_output.specs.Showing.{TellsClash, WrongAnswersAreTold}

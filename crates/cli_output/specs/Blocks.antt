@@ -6,9 +6,9 @@ use Rattle.chain_pack.specs.Draft.{pack_fault}
 use Rattle.chain_pack.specs.declared.error.PackError.{PackError}
 use Rattle.chain_pack.specs.declared.error.PackError.TheVariants.{Json, Top, Shape, BlockLimit}
 use Rattle.chain_pack.specs.declared.error.PackError.TheVariants.{Memory}
-use Rattle.cli_append.specs.cli_lines.Outcome.{outcome_with, bad_input}
-use Rattle.cli_append.specs.cli_lines.declared.outcome.Outcome.{Outcome}
-use Rattle.cli_append.specs.cli_lines.declared.outcome.Ending.TheVariants as endings
+use Rattle.cli_promises.specs.cli_lines.Outcome.{outcome_with, bad_input}
+use Rattle.cli_promises.specs.cli_lines.declared.outcome.Outcome.{Outcome}
+use Rattle.cli_promises.specs.cli_lines.declared.outcome.Ending.TheVariants as endings
 
 -- The frame of a block: the number of its bytes, in four bytes, the most significant first, and
 -- then these.

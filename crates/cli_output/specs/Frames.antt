@@ -2,8 +2,8 @@
 use Rattle.std.specs.Prelude.{ℕ, zero, suc, ◌+◌, ◌-◌, List, [], ◌∷◌, drop}
 use Rattle.block_codec.specs.Frames.{FrameStep, End, Truncated, Length, Many, Frame, frame_step}
 use Rattle.block_codec.specs.declared.limits.TheConstants.{MAX_FRAMES}
-use Rattle.cli_append.specs.cli_lines.chain_input.Folding.{FoldEnd, Whole, Refused}
-use Rattle.cli_append.specs.cli_lines.chain_input.declared.cause.Cause.TheVariants as causes
+use Rattle.replay_soundness.specs.chain_input.Folding.{FoldEnd, Whole, Refused}
+use Rattle.replay_soundness.specs.chain_input.declared.cause.Cause.TheVariants as causes
 
 -- The bytes of the frames of an input, in order, up to one that is refused for its form; how they
 -- end; and the bytes that follow what was read of the input.

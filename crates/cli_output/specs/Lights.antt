@@ -7,19 +7,19 @@ use Rattle.hex.specs.Hex.{encode_lower}
 use Rattle.lc_base.specs.declared.digest.Digest.{Digest}
 use Rattle.lc_base.specs.declared.row.Row.{Row}
 use Rattle.proof_commands.specs.Lines.{reject_text}
-use Rattle.light_soundness.specs.replay_soundness.proof_checks.declared.reject.Reject.TheVariants.{Malformed}
-use Rattle.light_soundness.specs.light_client.light_file.Format.{head_bytes}
-use Rattle.light_soundness.specs.light_client.light_file.declared.block_root.BlockRoot.{BlockRoot}
-use Rattle.light_soundness.specs.light_client.Checking.{LightAnswer, light_verdict}
-use Rattle.light_soundness.specs.light_client.declared.reject.LightReject.{LightReject}
-use Rattle.light_soundness.specs.light_client.declared.reject.LightReject.TheVariants as rejects
-use Rattle.light_maker.specs.Making.{piece_bytes}
-use Rattle.light_maker.specs.declared.limits.TheConstants.{BLOCKS_PER_PIECE}
+use Rattle.proof_checks.specs.declared.reject.Reject.TheVariants.{Malformed}
+use Rattle.replay_soundness.specs.light_client.Format.{head_bytes}
+use Rattle.replay_soundness.specs.light_client.declared.block_root.BlockRoot.{BlockRoot}
+use Rattle.replay_soundness.specs.light_client.Checking.{LightAnswer, light_verdict}
+use Rattle.replay_soundness.specs.light_client.declared.reject.LightReject.{LightReject}
+use Rattle.replay_soundness.specs.light_client.declared.reject.LightReject.TheVariants as rejects
+use Rattle.replay_soundness.specs.light_client.Making.{piece_bytes}
+use Rattle.replay_soundness.specs.light_client.declared.piece_limits.TheConstants.{BLOCKS_PER_PIECE}
 use Rattle.cli_words.specs.Words.{kind_word}
-use Rattle.cli_append.specs.cli_lines.Lines.{line, answer_lines, refused_line}
-use Rattle.cli_append.specs.cli_lines.chain_input.Folding.{FoldEnd, Whole, Refused}
-use Rattle.cli_append.specs.cli_lines.declared.outcome.Ending.{Ending}
-use Rattle.cli_append.specs.cli_lines.declared.outcome.Ending.TheVariants as endings
+use Rattle.cli_promises.specs.cli_lines.Lines.{line, answer_lines, refused_line}
+use Rattle.replay_soundness.specs.chain_input.Folding.{FoldEnd, Whole, Refused}
+use Rattle.cli_promises.specs.cli_lines.declared.outcome.Ending.{Ending}
+use Rattle.cli_promises.specs.cli_lines.declared.outcome.Ending.TheVariants as endings
 
 -- ---- a light file that is made
 

@@ -2,7 +2,7 @@
 use Rattle.std.specs.Prelude.{ℕ, List, ◌++◌, codes, decimal}
 use Rattle.hex.specs.Hex.{encode_lower}
 use Rattle.chain_load.specs.declared.loading.Load.{Load}
-use Rattle.cli_append.specs.cli_lines.Lines.{line}
+use Rattle.cli_promises.specs.cli_lines.Lines.{line}
 
 -- The line of a load, with a word before each number: the blocks, the rows and the root at the last
 -- block; the look-ups, the versions that all of them looked at, and the most that one did.

@@ -16,46 +16,46 @@ use Rattle.block_log.specs.Standing.{Standing, Blank, NotALog, Damaged, Holds, N
 use Rattle.block_log.specs.Standing.{Logged, nothing_logged, next_block, blocks_in, standing}
 use Rattle.block_log.specs.Log.{log_placement}
 use Rattle.contract_tree.specs.Tree.{FunctionTree}
-use Rattle.contract_print.specs.contract_parse.Syntax.{Outcome as SourceOutcome, IsOutcome}
-use Rattle.contract_print.specs.contract_parse.contract_tokens.declared.edition.TheConstants.{FIRST_EDITION, SECOND_EDITION}
+use Rattle.contract_parse.specs.Syntax.{Outcome as SourceOutcome, IsOutcome}
+use Rattle.contract_tokens.specs.declared.edition.TheConstants.{FIRST_EDITION, SECOND_EDITION}
 use Rattle.contract_check.specs.Faults.{check_fault}
 use Rattle.contract_check.specs.declared.fault.Fault.{Fault}
 use Rattle.contract_print.specs.Canonical.{contract_text}
-use Rattle.cli_append.specs.chain_exec.Compiled.{Compiler, IsCompiler}
-use Rattle.cli_append.specs.chain_exec.Replay.{replay}
-use Rattle.light_soundness.specs.replay_soundness.chain_replay.Chain.{placement_by_mark}
-use Rattle.light_soundness.specs.replay_soundness.chain_replay.Chain.{placement_in}
-use Rattle.light_soundness.specs.replay_soundness.chain_replay.Judging.{added_by_all}
-use Rattle.light_soundness.specs.replay_soundness.rooted_chain.Roots.{root_in}
-use Rattle.light_soundness.specs.replay_soundness.chain_input.Folding.{Fold, FoldEnd, Whole}
-use Rattle.light_soundness.specs.replay_soundness.chain_input.Folding.{Refused, fold_from}
-use Rattle.light_soundness.specs.replay_soundness.chain_input.Folding.{fold_input}
-use Rattle.light_soundness.specs.light_client.light_file.Format.{light_in}
-use Rattle.light_soundness.specs.light_client.light_file.Reading.{left_of_none}
-use Rattle.light_soundness.specs.light_client.light_file.declared.block_root.BlockRoot.{BlockRoot}
-use Rattle.crash_promises.specs.Promises.{Line, plain, Change, NoChange, Appends}
-use Rattle.cli_append.specs.Appending.{fold_lines, marked_line, upgrade_text, upgrade_change}
-use Rattle.cli_follow.specs.Following.{FollowFold, follow_all, follow_lines}
+use Rattle.cli_promises.specs.chain_exec.Compiled.{Compiler, IsCompiler}
+use Rattle.cli_promises.specs.chain_exec.Replay.{replay}
+use Rattle.cli_promises.specs.chain_replay.Chain.{placement_by_mark}
+use Rattle.cli_promises.specs.chain_replay.Chain.{placement_in}
+use Rattle.cli_promises.specs.chain_replay.Judging.{added_by_all}
+use Rattle.replay_soundness.specs.rooted_chain.Roots.{root_in}
+use Rattle.replay_soundness.specs.chain_input.Folding.{Fold, FoldEnd, Whole}
+use Rattle.replay_soundness.specs.chain_input.Folding.{Refused, fold_from}
+use Rattle.replay_soundness.specs.chain_input.Folding.{fold_input}
+use Rattle.replay_soundness.specs.light_client.Format.{light_in}
+use Rattle.replay_soundness.specs.light_client.Reading.{left_of_none}
+use Rattle.replay_soundness.specs.light_client.declared.block_root.BlockRoot.{BlockRoot}
+use Rattle.cli_promises.specs.Promises.{Line, plain, Change, NoChange, Appends}
+use Rattle.cli_promises.specs.Appending.{fold_lines, marked_line, upgrade_text, upgrade_change}
+use Rattle.cli_promises.specs.Following.{FollowFold, follow_all, follow_lines}
 use Rattle.chain_pack.specs.Draft.{texts_of_draft}
-use Rattle.chain_gen.specs.Generator.{blocks_of_seed}
+use Rattle.chain_pack.specs.Generator.{blocks_of_seed}
 use Rattle.chain_load.specs.Loads.{load_of}
 use Rattle.proof_codec.specs.declared.proof.Proof.{Proof}
-use Rattle.light_soundness.specs.replay_soundness.proof_checks.Making.{made_proof}
-use Rattle.light_soundness.specs.replay_soundness.proof_checks.ProofTexts.{proof_texts}
-use Rattle.light_soundness.specs.replay_soundness.Soundness.{replayed_texts}
-use Rattle.text_clashes.specs.FirstClash.{IsFirstClash}
+use Rattle.proof_checks.specs.Making.{made_proof}
+use Rattle.proof_checks.specs.ProofTexts.{proof_texts}
+use Rattle.replay_soundness.specs.Soundness.{replayed_texts}
+use Rattle.replay_soundness.specs.text_clashes.FirstClash.{IsFirstClash}
 use Rattle.proof_commands.specs.Verifying.{IsVerification}
 use Rattle.proof_commands.specs.declared.verification.Verification.{Verification}
-use Rattle.row_ancestors.specs.Ancestors.{trace_at}
-use Rattle.trace_checks.specs.declared.trace_proof.TraceProof.{TraceProof}
-use Rattle.trace_checks.specs.Making.{made_trace}
-use Rattle.trace_commands.specs.Verifying.{IsTraceVerification}
-use Rattle.trace_commands.specs.declared.verification.TraceVerification.{TraceVerification}
-use Rattle.range_commands.specs.range_checks.row_ranges.Ranges.{between}
-use Rattle.range_commands.specs.range_checks.declared.range_proof.RangeProof.{RangeProof}
-use Rattle.range_commands.specs.range_checks.Making.{made_range}
-use Rattle.range_commands.specs.Verifying.{IsRangeVerification}
-use Rattle.range_commands.specs.declared.verification.RangeVerification.{RangeVerification}
+use Rattle.root_laws.specs.Ancestors.{trace_at}
+use Rattle.proof_checks.specs.declared.trace_proof.TraceProof.{TraceProof}
+use Rattle.proof_checks.specs.TraceMaking.{made_trace}
+use Rattle.proof_commands.specs.TraceVerifying.{IsTraceVerification}
+use Rattle.proof_commands.specs.declared.trace_verification.TraceVerification.{TraceVerification}
+use Rattle.root_laws.specs.Ranges.{between}
+use Rattle.proof_checks.specs.declared.range_proof.RangeProof.{RangeProof}
+use Rattle.proof_checks.specs.RangeMaking.{made_range}
+use Rattle.proof_commands.specs.RangeVerifying.{IsRangeVerification}
+use Rattle.proof_commands.specs.declared.range_verification.RangeVerification.{RangeVerification}
 use Rattle.cli_words.specs.declared.words.Edition.{Edition}
 use Rattle.cli_words.specs.declared.words.Edition.TheVariants as editions
 use Rattle.cli_words.specs.declared.words.BlockVersion.{BlockVersion}
@@ -68,18 +68,19 @@ use Rattle.cli_words.specs.declared.words.Command.TheVariants.{Root, Ask, Prove,
 use Rattle.cli_words.specs.declared.words.Command.TheVariants.{Trace, ProveTrace, VerifyTrace}
 use Rattle.cli_words.specs.declared.words.Command.TheVariants.{Range, ProveRange, VerifyRange}
 use Rattle.cli_words.specs.declared.words.Command.TheVariants.{MakeLight, Light}
-use Rattle.cli_append.specs.cli_lines.Lines.{usage_line, beyond_line, root_line}
+use Rattle.cli_promises.specs.cli_lines.Lines.{usage_line, beyond_line, root_line}
 use Rattle.cli_output.specs.LoadLine.{load_line}
-use Rattle.cli_append.specs.cli_lines.Lines.{refused_line, answer_lines, trace_lines, syntax_cause}
-use Rattle.cli_append.specs.cli_lines.Lines.{check_cause, range_lines}
-use Rattle.cli_append.specs.cli_lines.Lines.{not_a_log_line, damaged_line}
-use Rattle.cli_append.specs.cli_lines.Outcome.{status_of, outcome_with, bad_input}
-use Rattle.cli_append.specs.cli_lines.declared.whole.TheConstants.{MAX_WHOLE_INPUT_BYTES}
-use Rattle.cli_append.specs.cli_lines.declared.outcome.Outcome.{Outcome}
-use Rattle.cli_append.specs.cli_lines.declared.outcome.Ending.{Ending}
-use Rattle.cli_append.specs.cli_lines.declared.outcome.Ending.TheVariants as endings
-use Rattle.cli_append.specs.cli_lines.declared.status.Status.{Status}
-use Rattle.cli_append.specs.cli_lines.declared.status.Status.TheVariants as statuses
+use Rattle.cli_promises.specs.cli_lines.Lines.{refused_line, answer_lines, trace_lines}
+use Rattle.cli_promises.specs.cli_lines.Lines.{syntax_cause}
+use Rattle.cli_promises.specs.cli_lines.Lines.{check_cause, range_lines}
+use Rattle.cli_promises.specs.cli_lines.Lines.{not_a_log_line, damaged_line}
+use Rattle.cli_promises.specs.cli_lines.Outcome.{status_of, outcome_with, bad_input}
+use Rattle.cli_promises.specs.cli_lines.declared.whole.TheConstants.{MAX_WHOLE_INPUT_BYTES}
+use Rattle.cli_promises.specs.cli_lines.declared.outcome.Outcome.{Outcome}
+use Rattle.cli_promises.specs.cli_lines.declared.outcome.Ending.{Ending}
+use Rattle.cli_promises.specs.cli_lines.declared.outcome.Ending.TheVariants as endings
+use Rattle.cli_promises.specs.cli_lines.declared.status.Status.{Status}
+use Rattle.cli_promises.specs.cli_lines.declared.status.Status.TheVariants as statuses
 use Rattle.cli_output.specs.Texts.{lines_of}
 use Rattle.cli_output.specs.Blocks.{frame, draft_outcome}
 use Rattle.cli_output.specs.Proofs.{proof_line, verification_outcome, is_accepted, IsAcceptedHex}

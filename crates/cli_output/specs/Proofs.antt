@@ -6,8 +6,8 @@ use Rattle.hex.specs.Hex.{encode_lower, decode_of}
 use Rattle.lc_base.specs.declared.answer.Query.{Query}
 use Rattle.proof_codec.specs.declared.proof.Proof.{Proof}
 use Rattle.proof_codec.specs.Spelling.{proof_fields}
-use Rattle.proof_commands.specs.proof_views.Viewing.{Spells}
-use Rattle.light_soundness.specs.replay_soundness.proof_checks.Checks.{verdict}
+use Rattle.proof_codec.specs.Viewing.{Spells}
+use Rattle.proof_checks.specs.Checks.{verdict}
 use Rattle.proof_commands.specs.Lines.{rejected_line}
 use Rattle.proof_commands.specs.Verifying.{hex_text}
 use Rattle.proof_commands.specs.declared.verification.HexFault.{HexFault}
@@ -15,11 +15,11 @@ use Rattle.proof_commands.specs.declared.verification.HexFault.TheVariants.{Odd,
 use Rattle.proof_commands.specs.declared.verification.Verification.{Verification}
 use Rattle.proof_commands.specs.declared.verification.Verification.TheVariants.{Accepted, Rejected}
 use Rattle.proof_commands.specs.declared.verification.Verification.TheVariants.{BadHex}
-use Rattle.text_clashes.specs.FirstClash.{text_at}
-use Rattle.cli_append.specs.cli_lines.Lines.{line, answer_lines}
-use Rattle.cli_append.specs.cli_lines.Outcome.{outcome_with, bad_input}
-use Rattle.cli_append.specs.cli_lines.declared.outcome.Outcome.{Outcome}
-use Rattle.cli_append.specs.cli_lines.declared.outcome.Ending.TheVariants as endings
+use Rattle.replay_soundness.specs.text_clashes.FirstClash.{text_at}
+use Rattle.cli_promises.specs.cli_lines.Lines.{line, answer_lines}
+use Rattle.cli_promises.specs.cli_lines.Outcome.{outcome_with, bad_input}
+use Rattle.cli_promises.specs.cli_lines.declared.outcome.Outcome.{Outcome}
+use Rattle.cli_promises.specs.cli_lines.declared.outcome.Ending.TheVariants as endings
 
 -- The bytes of a proof in lower-case hex, as a line.
 abbrev pub proof_line : Proof → List ℕ

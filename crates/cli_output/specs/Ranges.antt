@@ -3,15 +3,15 @@
 use Rattle.std.specs.Prelude.{ℕ, List, [], ◌∷◌}
 use Rattle.std.specs.List.{concat}
 use Rattle.hex.specs.Hex.{encode_lower}
-use Rattle.range_commands.specs.range_checks.declared.range_proof.RangeProof.{RangeProof}
-use Rattle.range_commands.specs.range_checks.Spelling.{range_fields}
-use Rattle.range_commands.specs.Lines.{rejected_range_line}
-use Rattle.range_commands.specs.declared.verification.RangeVerification.{RangeVerification}
-use Rattle.range_commands.specs.declared.verification.RangeVerification.TheVariants as told
-use Rattle.cli_append.specs.cli_lines.Lines.{line, range_lines}
-use Rattle.cli_append.specs.cli_lines.Outcome.{outcome_with, bad_input}
-use Rattle.cli_append.specs.cli_lines.declared.outcome.Outcome.{Outcome}
-use Rattle.cli_append.specs.cli_lines.declared.outcome.Ending.TheVariants as endings
+use Rattle.proof_checks.specs.declared.range_proof.RangeProof.{RangeProof}
+use Rattle.proof_checks.specs.RangeSpelling.{range_fields}
+use Rattle.proof_commands.specs.RangeLines.{rejected_range_line}
+use Rattle.proof_commands.specs.declared.range_verification.RangeVerification.{RangeVerification}
+use Rattle.proof_commands.specs.declared.range_verification.RangeVerification.TheVariants as told
+use Rattle.cli_promises.specs.cli_lines.Lines.{line, range_lines}
+use Rattle.cli_promises.specs.cli_lines.Outcome.{outcome_with, bad_input}
+use Rattle.cli_promises.specs.cli_lines.declared.outcome.Outcome.{Outcome}
+use Rattle.cli_promises.specs.cli_lines.declared.outcome.Ending.TheVariants as endings
 use Rattle.cli_output.specs.Proofs.{hex_cause}
 
 -- The bytes of a range proof in lower-case hex, as a line.

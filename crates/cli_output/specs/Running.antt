@@ -6,11 +6,12 @@ use Rattle.lc_io.specs.Outside.{Tell}
 use Rattle.disk_model.specs.Disk.{Keeps, Rests, content_of}
 use Rattle.block_codec.specs.Spelling.{Decoder}
 use Rattle.block_log.specs.Standing.{NextBlock}
-use Rattle.cli_append.specs.chain_exec.Compiled.{Compiler}
-use Rattle.crash_promises.specs.Promises.{Change, NoChange, Appends, Marks, Telling, MayLeave, IsChanged}
+use Rattle.cli_promises.specs.chain_exec.Compiled.{Compiler}
+use Rattle.cli_promises.specs.Promises.{Change, NoChange, Appends, Marks, Telling, MayLeave}
+use Rattle.cli_promises.specs.Promises.{IsChanged}
 use Rattle.cli_words.specs.declared.words.Command.{Command}
-use Rattle.cli_append.specs.cli_lines.declared.status.Status.{Status}
-use Rattle.cli_append.specs.cli_lines.declared.status.Status.TheVariants as statuses
+use Rattle.cli_promises.specs.cli_lines.declared.status.Status.{Status}
+use Rattle.cli_promises.specs.cli_lines.declared.status.Status.TheVariants as statuses
 use Rattle.cli_output.specs.Output.{Output, Wants, next_by}
 use Rattle.cli_output.specs.Uses.{reads_input, takes_frames, reads_form, checks_proof}
 use Rattle.cli_output.specs.Uses.{asks_for_block, uses_disk, uses_scratch}

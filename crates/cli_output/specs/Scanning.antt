@@ -5,15 +5,15 @@ use Rattle.lc_io.specs.Disk.{DiskState}
 use Rattle.disk_model.specs.Disk.{content_of}
 use Rattle.block_codec.specs.Reading.{block_in}
 use Rattle.block_codec.specs.declared.block.Block.{Block}
-use Rattle.cli_append.specs.chain_exec.Compiled.{compiled_in}
-use Rattle.light_soundness.specs.replay_soundness.chain_replay.Chain.{ChainState, StandsFor}
+use Rattle.cli_promises.specs.chain_exec.Compiled.{compiled_in}
+use Rattle.cli_promises.specs.chain_replay.Chain.{ChainState, StandsFor}
 use Rattle.cli_words.specs.declared.words.Command.{Command}
 use Rattle.cli_words.specs.declared.words.Command.TheVariants.{Root, Ask, Prove, Expose}
 use Rattle.cli_words.specs.declared.words.Command.TheVariants.{Trace, ProveTrace}
 use Rattle.cli_words.specs.declared.words.Command.TheVariants.{Range, ProveRange, MakeLight}
-use Rattle.cli_append.specs.cli_lines.declared.outcome.Outcome.{Outcome}
-use Rattle.cli_append.specs.cli_lines.declared.outcome.Ending.{Ending}
-use Rattle.cli_append.specs.cli_lines.declared.outcome.Ending.TheVariants as endings
+use Rattle.cli_promises.specs.cli_lines.declared.outcome.Outcome.{Outcome}
+use Rattle.cli_promises.specs.cli_lines.declared.outcome.Ending.{Ending}
+use Rattle.cli_promises.specs.cli_lines.declared.outcome.Ending.TheVariants as endings
 use Rattle.cli_output.specs.Output.{Output, output_of, IsFmtOutput, IsVerifyOutput, IsExposeOutput}
 use Rattle.cli_output.specs.Output.{root_output, ask_output, prove_output, Wants}
 use Rattle.cli_output.specs.Output.{trace_output, prove_trace_output, IsVerifyTraceOutput}

@@ -9,39 +9,39 @@ use Rattle.lc_base.specs.declared.answer.Answer.{Answer}
 use Rattle.lc_base.specs.declared.answer.Query.{Query}
 use Rattle.block_codec.specs.declared.block.Block.{Block}
 use Rattle.block_log.specs.Standing.{Logged}
-use Rattle.cli_append.specs.chain_exec.Compiled.{Compiler, IsCompiler}
+use Rattle.cli_promises.specs.chain_exec.Compiled.{Compiler, IsCompiler}
 use Rattle.proof_codec.specs.declared.proof.Proof.{Proof}
-use Rattle.proof_commands.specs.proof_views.Viewing.{Spells}
-use Rattle.light_soundness.specs.replay_soundness.proof_checks.ProofTexts.{proof_texts}
-use Rattle.text_clashes.specs.FirstClash.{text_at, ClashAt}
+use Rattle.proof_codec.specs.Viewing.{Spells}
+use Rattle.proof_checks.specs.ProofTexts.{proof_texts}
+use Rattle.replay_soundness.specs.text_clashes.FirstClash.{text_at, ClashAt}
 use Rattle.proof_commands.specs.Verifying.{hex_text, IsVerification}
 use Rattle.proof_commands.specs.declared.verification.Verification.TheVariants.{Accepted}
-use Rattle.light_soundness.specs.replay_soundness.Soundness.{HasRoot, replayed_answer}
-use Rattle.light_soundness.specs.replay_soundness.Soundness.{replayed_texts}
-use Rattle.light_soundness.specs.replay_soundness.Soundness.{ClashesWithReplay}
-use Rattle.light_soundness.specs.replay_soundness.Traces.{replayed_trace, TraceClashesWithReplay}
-use Rattle.trace_checks.specs.declared.trace_proof.TraceProof.{TraceProof}
-use Rattle.trace_checks.specs.Spelling.{SpellsTrace}
-use Rattle.light_soundness.specs.replay_soundness.Ranges.{replayed_range, RangeClashesWithReplay}
-use Rattle.range_commands.specs.range_checks.declared.range_proof.RangeProof.{RangeProof}
-use Rattle.range_commands.specs.range_checks.Spelling.{SpellsRange}
+use Rattle.replay_soundness.specs.Soundness.{HasRoot, replayed_answer}
+use Rattle.replay_soundness.specs.Soundness.{replayed_texts}
+use Rattle.replay_soundness.specs.Soundness.{ClashesWithReplay}
+use Rattle.replay_soundness.specs.Traces.{replayed_trace, TraceClashesWithReplay}
+use Rattle.proof_checks.specs.declared.trace_proof.TraceProof.{TraceProof}
+use Rattle.proof_checks.specs.TraceSpelling.{SpellsTrace}
+use Rattle.replay_soundness.specs.Ranges.{replayed_range, RangeClashesWithReplay}
+use Rattle.proof_checks.specs.declared.range_proof.RangeProof.{RangeProof}
+use Rattle.proof_checks.specs.RangeSpelling.{SpellsRange}
 use Rattle.byte_fields.specs.Spelling.{IsBytes}
 use Rattle.block_codec.specs.Placement.{digest_of}
-use Rattle.cli_append.specs.chain_exec.Replay.{replay}
-use Rattle.light_soundness.specs.Soundness.{AnswersByFile}
-use Rattle.light_soundness.specs.light_client.Checking.{LightAnswer, IsLightVerdict}
-use Rattle.light_soundness.specs.light_client.declared.reject.LightReject.{LightReject}
-use Rattle.light_soundness.specs.light_client.light_file.Format.{light_bytes, light_in}
-use Rattle.light_soundness.specs.light_client.light_file.declared.block_root.BlockRoot.{BlockRoot}
-use Rattle.light_maker.specs.Making.{block_roots_of}
-use Rattle.crash_promises.specs.Promises.{Line, plain, Appends}
-use Rattle.light_soundness.specs.replay_soundness.chain_replay.Chain.{IsChain}
-use Rattle.cli_follow.specs.follow_core.follower_steps.Events.{IsFrameOf}
-use Rattle.cli_follow.specs.follow_core.follower_steps.Laws.{IsPrefixOf}
-use Rattle.cli_follow.specs.Laws.{AreFramesOf}
-use Rattle.cli_append.specs.cli_lines.chain_input.Folding.{FoldEnd}
-use Rattle.cli_append.specs.cli_lines.Lines.{answer_lines, trace_lines, range_lines}
-use Rattle.cli_append.specs.cli_lines.declared.status.Status.TheVariants as statuses
+use Rattle.cli_promises.specs.chain_exec.Replay.{replay}
+use Rattle.replay_soundness.specs.LightSoundness.{AnswersByFile}
+use Rattle.replay_soundness.specs.light_client.Checking.{LightAnswer, IsLightVerdict}
+use Rattle.replay_soundness.specs.light_client.declared.reject.LightReject.{LightReject}
+use Rattle.replay_soundness.specs.light_client.Format.{light_bytes, light_in}
+use Rattle.replay_soundness.specs.light_client.declared.block_root.BlockRoot.{BlockRoot}
+use Rattle.replay_soundness.specs.light_client.Making.{block_roots_of}
+use Rattle.cli_promises.specs.Promises.{Line, plain, Appends}
+use Rattle.cli_promises.specs.chain_replay.Chain.{IsChain}
+use Rattle.cli_promises.specs.follower_steps.Events.{IsFrameOf}
+use Rattle.cli_promises.specs.follower_steps.Laws.{IsPrefixOf}
+use Rattle.cli_promises.specs.FollowLaws.{AreFramesOf}
+use Rattle.replay_soundness.specs.chain_input.Folding.{FoldEnd}
+use Rattle.cli_promises.specs.cli_lines.Lines.{answer_lines, trace_lines, range_lines}
+use Rattle.cli_promises.specs.cli_lines.declared.status.Status.TheVariants as statuses
 use Rattle.cli_output.specs.Output.{Output, FitsInput, IsVerifyOutput, IsExposeOutput}
 use Rattle.cli_output.specs.Output.{IsVerifyTraceOutput, IsVerifyRangeOutput}
 use Rattle.cli_output.specs.Output.{told_bytes, make_light_output, light_output, follow_to}

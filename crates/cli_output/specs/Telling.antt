@@ -6,23 +6,23 @@ use Rattle.lc_io.specs.Outside.{Tell}
 use Rattle.block_log.specs.Standing.{NextBlock}
 use Rattle.lc_base.specs.declared.host_error.HostError.{HostError}
 use Rattle.lc_base.specs.declared.host_error.HostError.TheVariants as reads
-use Rattle.cli_append.specs.recovery.declared.errors.StartError.{StartError}
-use Rattle.cli_append.specs.recovery.declared.errors.StartError.TheVariants as starts
-use Rattle.crash_promises.specs.Promises.{plain, Telling}
-use Rattle.cli_append.specs.Appending.{fold_end}
-use Rattle.cli_append.specs.declared.ending.RunEnd.{RunEnd}
-use Rattle.cli_append.specs.declared.ending.RunStop.{RunStop}
-use Rattle.cli_append.specs.cli_lines.Lines.{not_a_log_line, damaged_line}
-use Rattle.cli_append.specs.cli_lines.Outcome.{status_of, outcome_with}
-use Rattle.cli_append.specs.cli_lines.declared.outcome.Outcome.{Outcome}
-use Rattle.cli_append.specs.cli_lines.declared.outcome.Ending.{Ending}
-use Rattle.cli_append.specs.cli_lines.declared.outcome.Ending.TheVariants as endings
-use Rattle.cli_append.specs.cli_lines.declared.status.Status.{Status}
-use Rattle.cli_append.specs.cli_lines.declared.status.Status.TheVariants as statuses
+use Rattle.cli_promises.specs.recovery.declared.errors.StartError.{StartError}
+use Rattle.cli_promises.specs.recovery.declared.errors.StartError.TheVariants as starts
+use Rattle.cli_promises.specs.Promises.{plain, Telling}
+use Rattle.cli_promises.specs.Appending.{fold_end}
+use Rattle.cli_promises.specs.declared.ending.RunEnd.{RunEnd}
+use Rattle.cli_promises.specs.declared.ending.RunStop.{RunStop}
+use Rattle.cli_promises.specs.cli_lines.Lines.{not_a_log_line, damaged_line}
+use Rattle.cli_promises.specs.cli_lines.Outcome.{status_of, outcome_with}
+use Rattle.cli_promises.specs.cli_lines.declared.outcome.Outcome.{Outcome}
+use Rattle.cli_promises.specs.cli_lines.declared.outcome.Ending.{Ending}
+use Rattle.cli_promises.specs.cli_lines.declared.outcome.Ending.TheVariants as endings
+use Rattle.cli_promises.specs.cli_lines.declared.status.Status.{Status}
+use Rattle.cli_promises.specs.cli_lines.declared.status.Status.TheVariants as statuses
 use Rattle.cli_output.specs.Output.{fold_ending}
 use Rattle.cli_output.specs.declared.stop.OutcomeStop.{OutcomeStop}
 use Rattle.cli_output.specs.declared.stop.OutcomeStop.TheVariants as outcomes
-use Rattle.cli_append.specs.declared.ending.RunStop.TheVariants as stops
+use Rattle.cli_promises.specs.declared.ending.RunStop.TheVariants as stops
 
 -- ---- results
 

@@ -3,15 +3,15 @@
 use Rattle.std.specs.Prelude.{ℕ, List, [], ◌∷◌}
 use Rattle.std.specs.List.{concat}
 use Rattle.hex.specs.Hex.{encode_lower}
-use Rattle.trace_checks.specs.declared.trace_proof.TraceProof.{TraceProof}
-use Rattle.trace_checks.specs.Spelling.{trace_fields}
-use Rattle.trace_commands.specs.Lines.{rejected_trace_line}
-use Rattle.trace_commands.specs.declared.verification.TraceVerification.{TraceVerification}
-use Rattle.trace_commands.specs.declared.verification.TraceVerification.TheVariants as told
-use Rattle.cli_append.specs.cli_lines.Lines.{line, trace_lines}
-use Rattle.cli_append.specs.cli_lines.Outcome.{outcome_with, bad_input}
-use Rattle.cli_append.specs.cli_lines.declared.outcome.Outcome.{Outcome}
-use Rattle.cli_append.specs.cli_lines.declared.outcome.Ending.TheVariants as endings
+use Rattle.proof_checks.specs.declared.trace_proof.TraceProof.{TraceProof}
+use Rattle.proof_checks.specs.TraceSpelling.{trace_fields}
+use Rattle.proof_commands.specs.TraceLines.{rejected_trace_line}
+use Rattle.proof_commands.specs.declared.trace_verification.TraceVerification.{TraceVerification}
+use Rattle.proof_commands.specs.declared.trace_verification.TraceVerification.TheVariants as told
+use Rattle.cli_promises.specs.cli_lines.Lines.{line, trace_lines}
+use Rattle.cli_promises.specs.cli_lines.Outcome.{outcome_with, bad_input}
+use Rattle.cli_promises.specs.cli_lines.declared.outcome.Outcome.{Outcome}
+use Rattle.cli_promises.specs.cli_lines.declared.outcome.Ending.TheVariants as endings
 use Rattle.cli_output.specs.Proofs.{hex_cause}
 
 -- The bytes of a proof of ancestors in lower-case hex, as a line.

@@ -3,7 +3,7 @@
 ghost use Rattle.std.specs.Prelude.{◌≡◌, IfOk};
 ghost use Rattle.cli_output.specs.{Output.{beyond_outcome}, Scanning.{EndsAsked}};
 
-use cli_append::{Ending, Outcome, beyond_line};
+use cli_promises::{Ending, Outcome, beyond_line};
 use lc_base::Memory;
 use std::alloc::Global;
 

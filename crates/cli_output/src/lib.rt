@@ -10,12 +10,19 @@ mod telling;
 
 pub use asking::beyond;
 pub use chain_load::load_chain;
-pub use cli_append::{
-    Ending, Node, Outcome, RunStop, answer_lines, digest_text, hex_after, line, range_lines,
-    read_whole, refused_line, trace_lines,
+pub use cli_promises::{
+    Ending, Outcome, RunStop, answer_lines, hex_after, line, range_lines, read_whole, refused_line,
+    trace_lines,
 };
-pub use cli_follow::follow;
 pub use loads::load_line;
+pub use proof_commands::{
+    HexFault, RangeVerification, TraceVerification, Verification, answer_of, decode_hex,
+    reject_text, rejected_line, rejected_range_line, rejected_trace_line, verify_hex,
+    verify_range_hex, verify_trace_hex,
+};
+pub use replay_soundness::{
+    BLOCKS_PER_PIECE, Checked, LightError, LightFile, LightReject, block_count, check, head, piece,
+};
 pub use starting::start_outcome;
 pub use stop::{OutcomeStop, status_of_stop};
 pub use telling::{tell, tell_all, tell_usage};

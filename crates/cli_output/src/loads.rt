@@ -4,7 +4,8 @@ ghost use Rattle.std.specs.Prelude.{◌≡◌, ◌++◌, codes, decimal, string_
 ghost use Rattle.cli_output.specs.LoadLine.{load_line};
 
 use chain_load::Load;
-use cli_append::{digest_text, line};
+use cli_promises::line;
+use digest_kit::digest_text;
 use lc_base::{Bytes, Memory};
 use std::alloc::{AllocError, Global};
 

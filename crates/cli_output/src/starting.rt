@@ -1,12 +1,15 @@
 //! What is printed where nothing can be started: the disk holds no log, or a damaged one.
 
 ghost use Rattle.std.specs.Prelude.{◌≡◌, [], ◌∷◌, Ok, IfOk, IsErrOf};
-ghost use Rattle.cli_append.specs.recovery.declared.errors.StartError.TheVariants as starts;
-ghost use Rattle.cli_append.specs.cli_lines.{Lines.{not_a_log_line, damaged_line}, Outcome.{outcome_with}};
+ghost use Rattle.cli_promises.specs.recovery.declared.errors.StartError.TheVariants as starts;
+ghost use Rattle.cli_promises.specs.{
+  cli_lines.Lines.{not_a_log_line, damaged_line},
+  cli_lines.Outcome.{outcome_with},
+};
 ghost use Rattle.cli_output.specs.Telling.{start_outcome};
 
 use crate::stop::OutcomeStop;
-use cli_append::{Ending, Outcome, StartError, damaged_line, not_a_log_line};
+use cli_promises::{Ending, Outcome, StartError, damaged_line, not_a_log_line};
 use lc_base::Memory;
 use std::alloc::Global;
 

@@ -3,7 +3,7 @@
 ghost use Rattle.std.specs.Prelude.{◌≡◌};
 ghost use Rattle.cli_output.specs.Telling.{status_of_stop, stop_of_outcome, stop_of_source};
 
-use cli_append::{RunStop, Status};
+use cli_promises::{RunStop, Status};
 use lc_base::{HostError, Memory};
 
 /// The exit status of a stop.

@@ -1,11 +1,22 @@
 //! Printing outcomes: a command that stops without one has printed nothing.
 
-ghost use Rattle.std.specs.Prelude.{◌≡◌, [], ◌∷◌, map, is_ok, IfOk, IfErr, IsErr, IsErrOf, Option, Err};
+ghost use Rattle.std.specs.Prelude.{
+  ◌≡◌,
+  [],
+  ◌∷◌,
+  map,
+  is_ok,
+  IfOk,
+  IfErr,
+  IsErr,
+  IsErrOf,
+  Option,
+  Err,
+};
 ghost use Rattle.lc_base.specs.Faults.{HasCause};
 ghost use Rattle.disk_model.specs.Leaving.{LeavesDisk};
 ghost use Rattle.block_log.specs.Standing.{NextBlock};
-ghost use Rattle.crash_promises.specs.Promises.{plain, Telling};
-ghost use Rattle.cli_append.specs.cli_lines.Lines.{usage_line};
+ghost use Rattle.cli_promises.specs.{Promises.{plain, Telling}, cli_lines.Lines.{usage_line}};
 ghost use Rattle.cli_words.specs.declared.words.Command.{Command};
 ghost use Rattle.cli_output.specs.{
   Running.{IsSilent, MayEnd},
@@ -14,7 +25,7 @@ ghost use Rattle.cli_output.specs.{
 ghost use Rattle.cli_output.specs.declared.stop.OutcomeStop.TheVariants as outcomes;
 
 use crate::stop::OutcomeStop;
-use cli_append::{Ending, Outcome, RunStop, usage_line};
+use cli_promises::{Ending, Outcome, RunStop, usage_line};
 use lc_base::{Bytes, Memory};
 use lc_io::{Failed, Wire};
 use std::alloc::Global;

@@ -13,10 +13,10 @@ use Rattle.block_codec.specs.Placement.{digest_of}
 use Rattle.block_codec.specs.declared.block.Block.{Block}
 use Rattle.chain_exec.specs.Compiled.{compiled_in}
 use Rattle.chain_exec.specs.Effect.{History}
-use Rattle.cli_output.specs.chain_replay.Chain.{ChainState, StandsFor}
-use Rattle.answer_proof.specs.merkle_dag.Ledger.{Ledger, IsHead}
+use Rattle.chain_replay.specs.Chain.{ChainState, StandsFor}
+use Rattle.merkle_dag.specs.Ledger.{Ledger, IsHead}
 use Rattle.proof_codec.specs.declared.proof.Proof.{Proof}
-use Rattle.proof_views.specs.Viewing.{Spells}
+use Rattle.proof_codec.specs.Viewing.{Spells}
 use Rattle.proof_checks.specs.Checks.{verdict}
 use Rattle.proof_checks.specs.ProofTexts.{proof_texts}
 use Rattle.proof_checks.specs.LedgerTexts.{ledger_texts}
@@ -24,15 +24,17 @@ use Rattle.proof_checks.specs.declared.reject.Reject.{Reject}
 use Rattle.text_clashes.specs.FirstClash.{text_at}
 use Rattle.answer_exposing.specs.Exposing.{IsFound}
 use Rattle.answer_exposing.specs.declared.exposing.Clash.{Clash}
-use Rattle.proof_commands.specs.proof_verifier.Answering.{verdict_on}
-use Rattle.proof_commands.specs.Lines.{rejected_line}
-use Rattle.proof_commands.specs.Verifying.{hex_text, of_verdict, of_decoded, bytes_or_fault}
-use Rattle.proof_commands.specs.Verifying.{verification, IsVerification}
-use Rattle.proof_commands.specs.declared.verification.HexFault.{HexFault}
-use Rattle.proof_commands.specs.declared.verification.Verification.{Verification}
-use Rattle.proof_commands.specs.declared.verification.Verification.TheVariants.{Accepted, Rejected}
-use Rattle.proof_commands.specs.declared.verification.Verification.TheVariants.{BadHex}
-use Rattle.proof_commands.proofs.Verified.{is_verification}
+use Rattle.proof_verifier.specs.Answering.{verdict_on}
+use Rattle.cli_output.specs.proof_commands.Lines.{rejected_line}
+use Rattle.cli_output.specs.proof_commands.Verifying.{hex_text, of_verdict, of_decoded}
+use Rattle.cli_output.specs.proof_commands.Verifying.{bytes_or_fault}
+use Rattle.cli_output.specs.proof_commands.Verifying.{verification, IsVerification}
+use Rattle.cli_output.specs.proof_commands.declared.verification.HexFault.{HexFault}
+use Rattle.cli_output.specs.proof_commands.declared.verification.Verification.{Verification}
+use Rattle.cli_output.specs.proof_commands.declared.verification.Verification.TheVariants.{Accepted}
+use Rattle.cli_output.specs.proof_commands.declared.verification.Verification.TheVariants.{Rejected}
+use Rattle.cli_output.specs.proof_commands.declared.verification.Verification.TheVariants.{BadHex}
+use Rattle.cli_output.proofs.proof_commands.Verified.{is_verification}
 use Rattle.cli_output.proofs.rooted_chain.Rooted.{as_many}
 use Rattle.cli_words.specs.declared.words.Command.TheVariants.{Expose}
 use Rattle.cli_output.specs.cli_lines.Whole.{IsWholeInput}

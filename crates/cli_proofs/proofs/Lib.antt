@@ -1,5 +1,14 @@
 pub mod Verifies
 pub mod Proves
 pub mod Exposes
-pub use Rattle.proof_commands.proofs as proof_commands
-pub use Rattle.cli_output.proofs as cli_output
+pub mod Traces
+pub mod TraceProves
+pub mod TraceVerifies
+pub mod Ranges
+pub mod RangeProves
+pub mod RangeVerifies
+pub mod Framed
+pub mod Proofs
+pub mod Checked
+pub mod Read
+pub mod Made

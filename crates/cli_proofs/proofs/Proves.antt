@@ -8,12 +8,12 @@ use Rattle.block_codec.specs.Placement.{digest_of}
 use Rattle.block_codec.specs.declared.block.Block.{Block}
 use Rattle.chain_exec.specs.Compiled.{compiled_in}
 use Rattle.chain_exec.specs.Effect.{History}
-use Rattle.cli_output.specs.chain_replay.Chain.{ChainState, StandsFor}
-use Rattle.answer_proof.specs.merkle_dag.Ledger.{Ledger}
+use Rattle.chain_replay.specs.Chain.{ChainState, StandsFor}
+use Rattle.merkle_dag.specs.Ledger.{Ledger}
 use Rattle.proof_codec.specs.declared.proof.Proof.{Proof}
 use Rattle.proof_codec.specs.Spelling.{proof_fields}
 use Rattle.proof_checks.specs.Making.{made_proof}
-use Rattle.answer_proof.specs.Proving.{IsWithin, IsProved}
+use Rattle.lineage_trace.specs.answer_proof.Proving.{IsWithin, IsProved}
 use Rattle.cli_output.proofs.rooted_chain.Rooted.{as_many}
 use Rattle.cli_output.proofs.Reached.{root_reached}
 use Rattle.cli_proofs.specs.Exposing.{ledger_kept}

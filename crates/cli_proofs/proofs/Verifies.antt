@@ -4,12 +4,13 @@ use Rattle.std.proofs.Common.{refl, sym, ap, ◌∙◌, subst}
 use Rattle.std.specs.Prelude.{codes, decimal, IfOk, IfSome}
 use Rattle.lc_base.specs.declared.answer.Query.{Query}
 use Rattle.lc_base.specs.declared.digest.Digest.{Digest}
-use Rattle.proof_commands.specs.Verifying.{IsVerification}
-use Rattle.proof_commands.specs.declared.verification.HexFault.{HexFault}
-use Rattle.proof_commands.specs.declared.verification.HexFault.TheVariants.{At}
-use Rattle.proof_commands.specs.declared.verification.Verification.{Verification}
-use Rattle.proof_commands.specs.declared.verification.Verification.TheVariants.{Accepted, Rejected}
-use Rattle.proof_commands.specs.declared.verification.Verification.TheVariants.{BadHex}
+use Rattle.cli_output.specs.proof_commands.Verifying.{IsVerification}
+use Rattle.cli_output.specs.proof_commands.declared.verification.HexFault.{HexFault}
+use Rattle.cli_output.specs.proof_commands.declared.verification.HexFault.TheVariants.{At}
+use Rattle.cli_output.specs.proof_commands.declared.verification.Verification.{Verification}
+use Rattle.cli_output.specs.proof_commands.declared.verification.Verification.TheVariants.{Accepted}
+use Rattle.cli_output.specs.proof_commands.declared.verification.Verification.TheVariants.{Rejected}
+use Rattle.cli_output.specs.proof_commands.declared.verification.Verification.TheVariants.{BadHex}
 use Rattle.cli_words.specs.declared.words.Command.TheVariants.{Verify}
 use Rattle.cli_output.specs.cli_lines.declared.whole.TheConstants.{MAX_WHOLE_INPUT_BYTES}
 use Rattle.cli_output.specs.cli_lines.declared.outcome.Outcome.{Outcome}

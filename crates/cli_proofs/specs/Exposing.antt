@@ -2,13 +2,13 @@
 use Rattle.std.specs.Prelude.{◌≡◌, ℕ, ◌&&◌, nat_lt, nat_le, Bool, false, List, [], ◌∷◌, length}
 use Rattle.std.specs.Prelude.{Option, Some, None}
 use Rattle.lc_base.specs.declared.answer.Query.{Query}
-use Rattle.cli_output.specs.chain_replay.Chain.{ChainState}
-use Rattle.answer_proof.specs.merkle_dag.Ledger.{Ledger}
+use Rattle.chain_replay.specs.Chain.{ChainState}
+use Rattle.merkle_dag.specs.Ledger.{Ledger}
 use Rattle.proof_codec.specs.declared.proof.Proof.{Proof}
 use Rattle.proof_checks.specs.ProofTexts.{proof_texts}
 use Rattle.proof_checks.specs.LedgerTexts.{ledger_texts}
-use Rattle.proof_commands.specs.Verifying.{IsVerification}
-use Rattle.proof_commands.specs.declared.verification.Verification.{Verification}
+use Rattle.cli_output.specs.proof_commands.Verifying.{IsVerification}
+use Rattle.cli_output.specs.proof_commands.declared.verification.Verification.{Verification}
 use Rattle.answer_exposing.specs.Exposing.{IsFound}
 use Rattle.answer_exposing.specs.declared.exposing.Clash.{Clash}
 use Rattle.cli_output.specs.cli_lines.Outcome.{outcome_with}

@@ -1,36 +1,57 @@
 //! The command `expose`: the first clash of an accepted proof with the blocks of a chain. The input
 //! is not read unless the chain reaches the block of the root.
 
-ghost use Rattle.std.specs.Prelude.{◌≡◌, ◌<◌, ◌≤◌, ◌++◌, ℕ, List, Option, true, length, codes, string_bytes, Some, IfOk, IfSome, IsErrOf};
+ghost use Rattle.std.specs.Prelude.{
+  ◌≡◌,
+  ◌<◌,
+  ◌≤◌,
+  ◌++◌,
+  ℕ,
+  List,
+  Option,
+  true,
+  length,
+  codes,
+  string_bytes,
+  Some,
+  IfOk,
+  IfSome,
+  IsErrOf,
+};
 ghost use Rattle.lc_base.specs.Faults.{HasCause};
 ghost use Rattle.hex.specs.Hex.{encode_lower};
 ghost use Rattle.merkle_tree.specs.Tree.{audit_length};
 ghost use Rattle.block_codec.specs.declared.block.Block.{Block as Blocks};
-ghost use Rattle.cli_output.specs.chain_replay.Chain.{ChainState, StandsFor};
-ghost use Rattle.scratch_model.specs.Scratch.{is_known};
-ghost use Rattle.answer_proof.specs.merkle_dag.Lineage.{AgreesWith, ledger_in};
+ghost use Rattle.chain_replay.specs.Chain.{ChainState, StandsFor};
+ghost use Rattle.lc_io.specs.Scratch.{is_known};
+ghost use Rattle.merkle_dag.specs.Lineage.{AgreesWith, ledger_in};
 ghost use Rattle.proof_checks.specs.ProofTexts.{proof_texts};
 ghost use Rattle.answer_exposing.specs.{
   Exposing.{IsFound},
   declared.exposing.Clash.{Clash as Clashes},
 };
-ghost use Rattle.cli_output.specs.cli_lines.declared.whole.TheConstants.{MAX_WHOLE_INPUT_BYTES};
 ghost use Rattle.cli_output.specs.{
+  cli_lines.declared.whole.TheConstants.{MAX_WHOLE_INPUT_BYTES},
   Proofs.{clash_line},
   Scanning.{EndsExposed, IsExposeOutcome},
 };
-ghost use Rattle.cli_proofs.specs.Exposing.{IsHeld, found_outcome, ledger_kept, reaches, texts_kept};
+ghost use Rattle.cli_proofs.specs.Exposing.{
+  IsHeld,
+  found_outcome,
+  ledger_kept,
+  reaches,
+  texts_kept,
+};
 
 use crate::lines::line_of;
 use crate::verifying::{bad_hex, rejected_outcome};
 use answer_exposing::{Clash, expose as expose_proof};
-use answer_proof::{Lineage, QueryError};
-use cli_output::{Ending, Outcome, OutcomeStop, beyond, hex_after, read_whole};
+use cli_output::{Ending, Outcome, OutcomeStop, beyond, decode_hex, hex_after, read_whole};
 use lc_base::{Bytes, Digest, Memory, Query};
-use lc_io::Source;
-use proof_commands::{accept, decode_hex};
-use proof_views::ProofView;
-use scratch_model::Scratch;
+use lc_io::{Scratch, Source};
+use merkle_dag::{Lineage, QueryError};
+use proof_codec::ProofView;
+use proof_verifier::accept;
 use std::alloc::{AllocError, Global};
 
 /// The text of two texts that clash, in lower-case hex.

@@ -5,18 +5,22 @@ ghost use Rattle.lc_base.specs.Faults.{HasCause};
 ghost use Rattle.hex.specs.Hex.{encode_lower};
 ghost use Rattle.block_codec.specs.declared.block.Block.{Block as Blocks};
 ghost use Rattle.chain_exec.specs.Compiled.{compiled_in};
-ghost use Rattle.cli_output.specs.chain_replay.Chain.{ChainState, StandsFor};
-ghost use Rattle.scratch_model.specs.Scratch.{is_known};
-ghost use Rattle.answer_proof.specs.merkle_dag.Lineage.{AgreesWith, ledger_in};
-ghost use Rattle.cli_output.specs.cli_lines.Lines.{line};
-ghost use Rattle.cli_output.specs.{Output.{prove_outcome}, Scanning.{EndsAsked}};
+ghost use Rattle.chain_replay.specs.Chain.{ChainState, StandsFor};
+ghost use Rattle.lc_io.specs.Scratch.{is_known};
+ghost use Rattle.merkle_dag.specs.Lineage.{AgreesWith, ledger_in};
+ghost use Rattle.cli_output.specs.{
+  cli_lines.Lines.{line},
+  Output.{prove_outcome},
+  Scanning.{EndsAsked},
+};
 ghost use Rattle.cli_proofs.specs.Exposing.{ledger_kept};
 
 use crate::lines::line_of;
-use answer_proof::{Lineage, QueryError, prove as prove_answer};
 use cli_output::{Ending, Outcome, OutcomeStop, beyond};
 use lc_base::{Bytes, Memory, Query};
-use scratch_model::Scratch;
+use lc_io::Scratch;
+use lineage_trace::prove as prove_answer;
+use merkle_dag::{Lineage, QueryError};
 use std::alloc::Global;
 
 /// The line of bytes in lower-case hex.

@@ -2,21 +2,23 @@
 
 ghost use Rattle.std.specs.Prelude.{◌≡◌, [], ◌∷◌, Some, IfOk, IfSome, IsErrOf};
 ghost use Rattle.lc_base.specs.Faults.{HasCause};
-ghost use Rattle.cli_output.specs.cli_lines.Outcome.{status_of, outcome_with, bad_input};
-ghost use Rattle.proof_commands.specs.Lines.{rejected_line};
-ghost use Rattle.cli_words.specs.declared.words.Command.TheVariants.{Verify};
 ghost use Rattle.cli_output.specs.{
+  cli_lines.Outcome.{status_of, outcome_with, bad_input},
+  proof_commands.Lines.{rejected_line},
   Proofs.{hex_cause, verification_outcome},
   Running.{MayEnd},
   Scanning.{IsVerifyOutcome},
   Telling.{OnlyReads},
 };
+ghost use Rattle.cli_words.specs.declared.words.Command.TheVariants.{Verify};
 
-use cli_output::{Ending, Outcome, OutcomeStop, answer_lines, read_whole};
+use cli_output::{
+    Ending, HexFault, Outcome, OutcomeStop, Verification, answer_lines, read_whole, rejected_line,
+    verify_hex,
+};
 use lc_base::{Digest, Memory, Query};
 use lc_io::Source;
 use proof_checks::Reject;
-use proof_commands::{HexFault, Verification, rejected_line, verify_hex};
 use std::alloc::Global;
 
 /// The outcome for a proof that is not accepted.

@@ -6,7 +6,7 @@ use Rattle.std.proofs.lemmas.List.{drop_more, drop_all, length_push, append-nil}
 use Rattle.contract_tree.specs.declared.tree.Expr.{Expr}
 use Rattle.contract_tree.specs.declared.tree.ValueKind.{ValueKind}
 use Rattle.contract_tree.specs.Tree.{tree_of, trees}
-use Rattle.name_table.proofs.Noting.{or_none}
+use Rattle.contract_check.proofs.Noting.{or_none}
 use Rattle.contract_check.specs.declared.fault.Fault.{Fault}
 use Rattle.contract_check.specs.declared.expression.KindAt.{KindAt}
 use Rattle.contract_check.specs.Names.{Names}

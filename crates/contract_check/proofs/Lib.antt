@@ -1,3 +1,6 @@
+pub mod FirstPlaces
+pub mod OneCode
+pub mod Noting
 pub mod Arguments
 pub mod Scopes
 pub mod KindLaws

@@ -1,3 +1,5 @@
+pub mod Codes
+pub mod Indexes
 pub mod Names
 pub mod WellKinded
 pub mod Faults

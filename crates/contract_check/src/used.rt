@@ -6,8 +6,8 @@ ghost use Rattle.std.specs.{
   Cmp.Lexicographic.{pointwise},
 };
 
+use crate::table::NameTable;
 use lc_base::{Memory, Name};
-use name_table::NameTable;
 use std::alloc::Global;
 use std::marker::Model;
 

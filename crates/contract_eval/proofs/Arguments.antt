@@ -6,7 +6,7 @@ use Rattle.std.proofs.lemmas.Bool.{cases_Bool, both_ways, eqb-true, eq-eqb}
 use Rattle.std.proofs.lemmas.Bool.Decides.{nat_tests}
 use Rattle.lc_base.specs.declared.value.Value.{Value}
 use Rattle.contract_tree.specs.declared.tree.Param.{Param}
-use Rattle.contract_semantics.specs.Calls.{is_of_its_kind, are_arguments}
+use Rattle.eval_expressions.specs.contract_semantics.Calls.{is_of_its_kind, are_arguments}
 
 swap : (a b c : Bool) → (a && (b && c)) ≡ (b && (a && c))
 swap true true c = refl

@@ -8,18 +8,21 @@ use Rattle.contract_tree.specs.declared.tree.Statement.{Statement}
 use Rattle.contract_tree.specs.declared.tree.Form.TheVariants.{If, While}
 use Rattle.contract_tree.specs.Tree.{tree_of, statement_of, statement_list, StatementTree}
 use Rattle.contract_tree.proofs.Statements.{if_is, two_blocks_is, while_is}
-use Rattle.contract_semantics.specs.declared.variable.Variable.{Variable}
-use Rattle.contract_semantics.specs.declared.stop.EvalStop.{EvalStop}
-use Rattle.contract_semantics.specs.Scenes.{Scene}
-use Rattle.contract_semantics.specs.Answers.{scene_in}
-use Rattle.contract_semantics.specs.Steps.{Machine, machine, Step, Done, and_then}
-use Rattle.contract_semantics.specs.Statements.{Ending, unless_returned, block_ended, condition_step, statement_run, statements_run, block_run, branch_run, loop_run}
-use Rattle.eval_simple.specs.declared.flow.Flow.{Flow}
-use Rattle.eval_simple.specs.Flows.{Flows}
-use Rattle.eval_simple.specs.eval_builtins.declared.run.Run.{Run}
-use Rattle.eval_simple.specs.eval_builtins.Runs.{Tells}
-use Rattle.eval_simple.proofs.eval_expressions.ToldRows.{told_at, told_all}
-use Rattle.eval_simple.proofs.Following.{then_flows}
+use Rattle.eval_expressions.specs.contract_semantics.declared.variable.Variable.{Variable}
+use Rattle.eval_expressions.specs.contract_semantics.declared.stop.EvalStop.{EvalStop}
+use Rattle.eval_expressions.specs.contract_semantics.Scenes.{Scene}
+use Rattle.eval_expressions.specs.contract_semantics.Answers.{scene_in}
+use Rattle.eval_expressions.specs.contract_semantics.Steps.{Machine, machine, Step, Done, and_then}
+use Rattle.eval_expressions.specs.contract_semantics.Statements.{Ending, unless_returned}
+use Rattle.eval_expressions.specs.contract_semantics.Statements.{block_ended, condition_step}
+use Rattle.eval_expressions.specs.contract_semantics.Statements.{statement_run, statements_run}
+use Rattle.eval_expressions.specs.contract_semantics.Statements.{block_run, branch_run, loop_run}
+use Rattle.contract_eval.specs.declared.flow.Flow.{Flow}
+use Rattle.contract_eval.specs.Flows.{Flows}
+use Rattle.eval_expressions.specs.declared.run.Run.{Run}
+use Rattle.eval_expressions.specs.Runs.{Tells}
+use Rattle.eval_expressions.proofs.ToldRows.{told_at, told_all}
+use Rattle.contract_eval.proofs.Following.{then_flows}
 
 -- The same statement, as another tree.
 pub as_tree : (run : StatementTree → Step Ending) (s t : StatementTree) (result : Result Flow EvalStop) (variables : List Variable) (k : Machine) → s ≡ t → Flows (run t) result variables k → Flows (run s) result variables k

@@ -8,16 +8,17 @@ use Rattle.lc_base.specs.declared.row.Row.{Row}
 use Rattle.lc_base.specs.declared.value.Value.{Value}
 use Rattle.contract_tree.specs.declared.tree.Function.{Function}
 use Rattle.contract_tree.specs.Tree.{FunctionTree, function_of}
-use Rattle.contract_check.specs.Functions.{is_called}
+use Rattle.eval_expressions.specs.contract_check.Functions.{is_called}
 use Rattle.world_state.specs.Known.{Known}
 use Rattle.world_state.specs.World.{is_written, StandsForRows}
-use Rattle.contract_semantics.specs.declared.site.CallSite.{CallSite}
-use Rattle.contract_semantics.specs.Scenes.{Scene, scene_of}
-use Rattle.contract_semantics.specs.declared.variable.Variable.{Variable}
-use Rattle.contract_semantics.specs.Steps.{Step, Done, Failed, and_then}
-use Rattle.contract_semantics.specs.Statements.{Ending, Goes, Returns, block_ended}
-use Rattle.contract_semantics.specs.Calls.{call_ended, function_of_name, function_called, call_result}
-use Rattle.contract_semantics.specs.Answers.{scene_in}
+use Rattle.eval_expressions.specs.contract_semantics.declared.site.CallSite.{CallSite}
+use Rattle.eval_expressions.specs.contract_semantics.Scenes.{Scene, scene_of}
+use Rattle.eval_expressions.specs.contract_semantics.declared.variable.Variable.{Variable}
+use Rattle.eval_expressions.specs.contract_semantics.Steps.{Step, Done, Failed, and_then}
+use Rattle.eval_expressions.specs.contract_semantics.Statements.{Ending, Goes, Returns, block_ended}
+use Rattle.eval_expressions.specs.contract_semantics.Calls.{call_ended, function_of_name}
+use Rattle.eval_expressions.specs.contract_semantics.Calls.{function_called, call_result}
+use Rattle.eval_expressions.specs.contract_semantics.Answers.{scene_in}
 
 -- If the world stands for the rows, its scene is that of the history.
 same_scene : {C : Type 0} (world : Known C) (rows : List Row) (site : CallSite) → StandsForRows world rows → scene_in rows world site ≡ scene_of rows (is_written world) site

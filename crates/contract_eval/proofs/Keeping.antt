@@ -3,11 +3,11 @@ use Rattle.std.proofs.Common.{◌≡◌, ◌≤◌, Result, Ok, Err, ap, ◌∙�
 use Rattle.std.specs.Prelude.{IsErrOf}
 use Rattle.lc_base.specs.Faults.{HasCause}
 use Rattle.lc_base.specs.declared.host.Host.{Ghosts as Host}
-use Rattle.contract_semantics.specs.declared.stop.EvalStop.{EvalStop}
-use Rattle.contract_semantics.specs.declared.stop.EvalStop.TheVariants as stops
-use Rattle.contract_semantics.specs.Answers.{place_in, IsFaithful}
-use Rattle.eval_simple.specs.eval_builtins.declared.run.Run.{Run}
-use Rattle.eval_simple.specs.eval_builtins.Runs.{IsLent, KeepsRun}
+use Rattle.eval_expressions.specs.contract_semantics.declared.stop.EvalStop.{EvalStop}
+use Rattle.eval_expressions.specs.contract_semantics.declared.stop.EvalStop.TheVariants as stops
+use Rattle.eval_expressions.specs.contract_semantics.Answers.{place_in, IsFaithful}
+use Rattle.eval_expressions.specs.declared.run.Run.{Run}
+use Rattle.eval_expressions.specs.Runs.{IsLent, KeepsRun}
 use Rattle.contract_eval.proofs.Loops.{unblamed_at_ok}
 
 fault_of : {A : Type 0} (stop : EvalStop) → IsErrOf {T = A} (Err stop) stops.Fault → stop ≡ stops.Fault

@@ -1,6 +1,7 @@
+pub mod Following
+pub mod Faithful
 pub mod Arguments
 pub mod Called
 pub mod Loops
 pub mod Branches
-pub use Rattle.eval_simple.proofs.eval_expressions as eval_expressions
 pub mod Keeping

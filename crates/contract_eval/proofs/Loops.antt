@@ -1,17 +1,18 @@
 -- A loop that counts its turns does what the turns with a clock do: the clock and the count add up.
 use Rattle.std.proofs.Common.{◌≡◌, ℕ, suc, ◌+◌, ◌-◌, ◌<◌, ◌≤◌, List, Option, Some, Result, Ok, Err, refl, sym, ap, ◌∙◌, subst, arith}
 use Rattle.lc_base.specs.declared.tx_status.TxStatus.TheVariants.{OutOfSteps}
-use Rattle.contract_semantics.specs.declared.variable.Variable.{Variable}
-use Rattle.contract_semantics.specs.declared.stop.EvalStop.{EvalStop}
-use Rattle.contract_semantics.specs.declared.stop.EvalStop.TheVariants as kinds
-use Rattle.contract_semantics.specs.Scenes.{Scene}
-use Rattle.contract_semantics.specs.Steps.{Machine, Step, Done, Failed, and_then}
-use Rattle.contract_semantics.specs.Statements.{Ending, Turn, Again, turns, after_turn}
-use Rattle.eval_simple.specs.declared.flow.Flow.{Flow}
-use Rattle.eval_simple.specs.declared.flow.Flow.TheVariants as flows
-use Rattle.eval_simple.specs.Flows.{Flows}
+use Rattle.eval_expressions.specs.contract_semantics.declared.variable.Variable.{Variable}
+use Rattle.eval_expressions.specs.contract_semantics.declared.stop.EvalStop.{EvalStop}
+use Rattle.eval_expressions.specs.contract_semantics.declared.stop.EvalStop.TheVariants as kinds
+use Rattle.eval_expressions.specs.contract_semantics.Scenes.{Scene}
+use Rattle.eval_expressions.specs.contract_semantics.Steps.{Machine, Step, Done, Failed, and_then}
+use Rattle.eval_expressions.specs.contract_semantics.Statements.{Ending, Turn, Again, turns}
+use Rattle.eval_expressions.specs.contract_semantics.Statements.{after_turn}
+use Rattle.contract_eval.specs.declared.flow.Flow.{Flow}
+use Rattle.contract_eval.specs.declared.flow.Flow.TheVariants as flows
+use Rattle.contract_eval.specs.Flows.{Flows}
 use Rattle.contract_eval.specs.Turns.{Turns}
-use Rattle.eval_simple.proofs.eval_expressions.ToldRows.{unblamed}
+use Rattle.eval_expressions.proofs.ToldRows.{unblamed}
 
 -- One turn, then the others.
 next_turn : (n i : ℕ) (turn : List Variable → Machine → Step Turn) (variables : List Variable) (m : Machine) → i < n → turns (n - i) turn variables m ≡ and_then (turn variables m) (after_turn (turns (n - (i + 1)) turn))

@@ -4,9 +4,9 @@ use Rattle.lc_base.specs.declared.host_error.HostError.{HostError}
 use Rattle.lc_base.specs.declared.host_error.HostError.TheVariants as hosts
 use Rattle.lc_base.specs.declared.tx_status.TxStatus.{TxStatus}
 use Rattle.lc_base.specs.declared.tx_status.TxStatus.TheVariants as statuses
-use Rattle.contract_semantics.specs.declared.stop.EvalStop.{EvalStop}
-use Rattle.contract_semantics.specs.declared.stop.EvalStop.TheVariants as stops
-use Rattle.contract_eval.specs.eval_simple.declared.flow.Flow.{Flow}
+use Rattle.eval_expressions.specs.contract_semantics.declared.stop.EvalStop.{EvalStop}
+use Rattle.eval_expressions.specs.contract_semantics.declared.stop.EvalStop.TheVariants as stops
+use Rattle.contract_eval.specs.declared.flow.Flow.{Flow}
 
 -- The status of a function whose body ended like this, or why it has none.
 abbrev pub IsStatusOf : Result Flow EvalStop → Result TxStatus HostError → Type 0

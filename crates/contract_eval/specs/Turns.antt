@@ -1,12 +1,12 @@
 -- How the results of a loop's turns in the program are compared with the definitions.
 use Rattle.std.specs.Prelude.{◌≡◌, List, Option, Some, None, Result, Ok, Err}
-use Rattle.contract_semantics.specs.declared.variable.Variable.{Variable}
-use Rattle.contract_semantics.specs.declared.stop.EvalStop.{EvalStop}
-use Rattle.contract_semantics.specs.declared.stop.EvalStop.TheVariants as stops
-use Rattle.contract_semantics.specs.Steps.{Machine, Step, Done, Failed}
-use Rattle.contract_semantics.specs.Statements.{Goes, Returns, Turn, Again, Ended}
-use Rattle.eval_simple.specs.declared.flow.Flow.{Flow}
-use Rattle.eval_simple.specs.declared.flow.Flow.TheVariants as flows
+use Rattle.eval_expressions.specs.contract_semantics.declared.variable.Variable.{Variable}
+use Rattle.eval_expressions.specs.contract_semantics.declared.stop.EvalStop.{EvalStop}
+use Rattle.eval_expressions.specs.contract_semantics.declared.stop.EvalStop.TheVariants as stops
+use Rattle.eval_expressions.specs.contract_semantics.Steps.{Machine, Step, Done, Failed}
+use Rattle.eval_expressions.specs.contract_semantics.Statements.{Goes, Returns, Turn, Again, Ended}
+use Rattle.contract_eval.specs.declared.flow.Flow.{Flow}
+use Rattle.contract_eval.specs.declared.flow.Flow.TheVariants as flows
 
 -- The result of a turn of a loop, and the variables and the machine after it, are those of the
 -- step, unless memory ran out or the host failed. `None` means that another turn follows.

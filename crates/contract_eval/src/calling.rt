@@ -11,19 +11,24 @@ ghost use Rattle.lc_base.specs.Faults.{HasCause};
 ghost use Rattle.contract_tree.specs.Tree.{function_of, contract_of};
 ghost use Rattle.dep_capture.specs.Capture.{captured_none};
 ghost use Rattle.world_state.specs.World.{is_written, StandsForRows};
-ghost use Rattle.contract_semantics.specs.{
-  Scenes.{scene_of},
-  Calls.{is_of_kind, is_of_its_kind, are_arguments, first_variables, function_called, call_result},
-  Answers.{scene_in, place_in, IsFaithful},
+ghost use Rattle.eval_expressions.specs.{
+  contract_semantics.Scenes.{scene_of},
+  contract_semantics.Calls.{
+    is_of_kind,
+    is_of_its_kind,
+    are_arguments,
+    first_variables,
+    function_called,
+    call_result,
+  },
+  contract_semantics.Answers.{scene_in, place_in, IsFaithful},
 };
 
+use crate::flow::Flow;
 use crate::statement::block;
-use contract_check::Checked;
-use contract_semantics::{CallSite, EvalStop, Outcome};
 use contract_tree::{Function, Param, ValueKind};
 use dep_capture::Capture;
-use eval_simple::{Flow, Run};
-use eval_variables::Variables;
+use eval_expressions::{CallSite, Checked, EvalStop, Outcome, Run, Variables};
 use lc_base::{Duplicate, Host, HostError, Memory, TxStatus, Value, ValueList};
 use std::alloc::Global;
 use world_state::World;

@@ -2,18 +2,25 @@
 
 ghost use Rattle.std.specs.Prelude.{map};
 ghost use Rattle.contract_tree.specs.Tree.{tree_of, statement_of, statement_list};
-ghost use Rattle.contract_semantics.specs.Statements.{statement_run, statements_run, block_run, branch_run, loop_turn, loop_run};
-ghost use Rattle.eval_simple.specs.eval_builtins.Runs.{KeepsRun, Tells};
-ghost use Rattle.eval_simple.specs.Flows.{Flows};
-ghost use Rattle.contract_eval.specs.Turns.{Turns};
-
-use contract_semantics::EvalStop;
-use contract_tree::{Expr, Form, Statement};
-use eval_simple::{
-    Binding, Flow, Run, bind_statement, condition_step, fail_statement, put_statement,
-    remove_statement, return_statement,
+ghost use Rattle.eval_expressions.specs.{
+  contract_semantics.Statements.{
+    statement_run,
+    statements_run,
+    block_run,
+    branch_run,
+    loop_turn,
+    loop_run,
+  },
+  Runs.{KeepsRun, Tells},
 };
-use eval_variables::Variables;
+ghost use Rattle.contract_eval.specs.{Flows.{Flows}, Turns.{Turns}};
+
+use crate::binding::Binding;
+use crate::flow::Flow;
+use crate::put::{put_statement, remove_statement};
+use crate::simple::{bind_statement, condition_step, fail_statement, return_statement};
+use contract_tree::{Expr, Form, Statement};
+use eval_expressions::{EvalStop, Run, Variables};
 use lc_base::{Host, TxStatus};
 
 /// Runs a statement.

@@ -4,3 +4,4 @@ pub mod Marks
 pub mod Reading
 pub mod Reads
 pub mod Rules
+pub use Rattle.contract_tokens.specs as contract_tokens

@@ -7,6 +7,7 @@ mod limits;
 mod stop;
 mod word;
 
+pub use contract_tokens::Mark;
 pub use cursor::Cursor;
 pub use limits::{COMPARISONS, MAX_HEIGHT, MAX_NESTING, MAX_PARAMETERS, MAX_PENDING, WHOLE};
 pub use stop::ParseStop;

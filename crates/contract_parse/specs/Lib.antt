@@ -1,3 +1,2 @@
 pub mod Syntax
 pub mod Blocks
-pub use Rattle.contract_tokens.specs as contract_tokens

@@ -1,7 +1,7 @@
 -- Text that is split into tokens, put together from parts.
 use Rattle.std.proofs.Common.{◌≡◌, ℕ, ◌+◌, Bool, true, false, ◌||◌, List, [], ◌∷◌, ◌++◌, length, refl, sym, subst, append_assoc, arith, length-append}
 use Rattle.std.specs.List.{list_all}
-use Rattle.lc_names.specs.NameBytes.{is_letter, is_name_byte}
+use Rattle.lc_base.specs.NameBytes.{is_letter, is_name_byte}
 use Rattle.contract_tokens.specs.Spelling.{spelling}
 use Rattle.contract_tokens.specs.declared.token.Token.{Token}
 use Rattle.contract_tokens.specs.declared.token.Word.{Word}

@@ -1,7 +1,7 @@
 -- The text of a contract is read as the same contract, apart from offsets.
 use Rattle.std.proofs.Common.{◌≡◌, ℕ, suc, ◌+◌, ◌≤◌, true, false, List, [], ◌∷◌, ◌++◌, map, Ok, Err, codes, length, Some, refl, sym, ap, ◌∙◌, subst, append_assoc, arith}
 use Rattle.std.proofs.lemmas.List.{append-nil}
-use Rattle.lc_names.specs.NameBytes.{is_letter}
+use Rattle.lc_base.specs.NameBytes.{is_letter}
 use Rattle.contract_tokens.specs.declared.token.Token.{Token}
 use Rattle.contract_tokens.specs.declared.token.Word.{Word}
 use Rattle.contract_tokens.specs.declared.token.Word.TheVariants as w

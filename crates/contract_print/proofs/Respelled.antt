@@ -4,7 +4,7 @@ use Rattle.std.specs.Fmt.{signed_decimal}
 use Rattle.std.specs.List.{list_all}
 use Rattle.std.proofs.lemmas.Bool.{and_parts}
 use Rattle.std.proofs.lemmas.Bool.Decides.{nat_tests}
-use Rattle.lc_names.specs.NameBytes.{is_letter, is_name_byte, IsName}
+use Rattle.lc_base.specs.NameBytes.{is_letter, is_name_byte, IsName}
 use Rattle.contract_tokens.specs.declared.token.Token.{Token}
 use Rattle.contract_tokens.specs.declared.token.Word.{Word}
 use Rattle.contract_tokens.specs.declared.token.Word.TheVariants as w

@@ -1,2 +1,1 @@
 pub mod Canonical
-pub use Rattle.contract_parse.specs as contract_parse

@@ -1,0 +1,12 @@
+pub mod Tame
+pub mod Failures
+pub mod Dependencies
+pub mod Reading
+pub mod Builtins
+pub mod Expressions
+pub mod Loops
+pub mod Puts
+pub mod Statements
+pub mod TheLaws
+pub mod False
+pub mod EndsWell

@@ -12,3 +12,8 @@ pub mod Statements
 pub mod Calls
 pub mod Answers
 pub mod Hosts
+pub mod Lookups
+pub mod CallLookups
+pub mod Laws
+pub mod ExchangeLaws
+pub mod FalseLaws

@@ -2,8 +2,8 @@
 -- block, which is recorded.
 use Rattle.std.specs.Prelude.{ℕ, Bool, true, false, not, if◌then◌else◌, List, Option, Some, None, Result, Ok, Err}
 use Rattle.std.specs.Option.{option_map}
-use Rattle.lc_base.specs.lc_names.Key.{key_of}
-use Rattle.lc_base.specs.lc_names.declared.key.KeyError.{KeyError}
+use Rattle.lc_base.specs.Key.{key_of}
+use Rattle.lc_base.specs.declared.key.KeyError.{KeyError}
 use Rattle.lc_base.specs.declared.value.Value.{Value}
 use Rattle.lc_base.specs.declared.value.Value.TheVariants as values
 use Rattle.lc_base.specs.declared.tx_status.TxStatus.{TxStatus}

@@ -6,7 +6,7 @@ use Rattle.std.specs.Cmp.Lexicographic.{pointwise}
 use Rattle.std.proofs.lemmas.Bool.{cases_Bool, and_parts}
 use Rattle.std.proofs.lemmas.Bool.Decides.{nat_tests}
 use Rattle.std.proofs.lemmas.Slice.Eq.{bytes_eq-Decides}
-use Rattle.lc_names.specs.NameBytes.{is_letter, is_name_byte}
+use Rattle.lc_base.specs.NameBytes.{is_letter, is_name_byte}
 use Rattle.contract_tokens.specs.declared.token.Mark.{Mark}
 use Rattle.contract_tokens.specs.declared.token.Mark.TheVariants as marks
 use Rattle.contract_tokens.specs.Spelling.{spelling, is_of}

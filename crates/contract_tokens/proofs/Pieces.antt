@@ -7,11 +7,11 @@ use Rattle.std.proofs.lemmas.Bool.Decides.{nat_tests}
 use Rattle.std.proofs.lemmas.List.{length-append}
 use Rattle.std.proofs.lemmas.List.Sums.{take_while-cons}
 use Rattle.std.proofs.lemmas.Fmt.{decimal-digits_value, digits_value-decimal, first_decimal, decimal_digit}
-use Rattle.lc_names.specs.NameBytes.{is_letter, is_name_byte, bad_name_byte, IsName}
-use Rattle.lc_names.specs.Key.{all_good}
-use Rattle.lc_names.specs.Name.{name_of}
-use Rattle.lc_names.specs.declared.key.KeyError.{KeyError}
-use Rattle.lc_names.specs.declared.key.KeyError.TheVariants as errors
+use Rattle.lc_base.specs.NameBytes.{is_letter, is_name_byte, bad_name_byte, IsName}
+use Rattle.lc_base.specs.Key.{all_good}
+use Rattle.lc_base.specs.Name.{name_of}
+use Rattle.lc_base.specs.declared.key.KeyError.{KeyError}
+use Rattle.lc_base.specs.declared.key.KeyError.TheVariants as errors
 use Rattle.contract_tokens.specs.declared.token.Mark.{Mark}
 use Rattle.contract_tokens.specs.declared.token.Mark.TheVariants as marks
 use Rattle.contract_tokens.specs.declared.limits.TheConstants.{MAX_LITERAL_BYTES}

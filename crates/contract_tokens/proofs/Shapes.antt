@@ -6,7 +6,7 @@ use Rattle.std.proofs.lemmas.Bool.{cases_Bool, and_parts}
 use Rattle.std.proofs.lemmas.Bool.Decides.{nat_tests}
 use Rattle.std.proofs.lemmas.Fmt.{digits_decimal, decimal_nonempty}
 use Rattle.std.proofs.lemmas.Str.Parse.{IsNumeralModel, numerals_by_fold}
-use Rattle.lc_names.specs.NameBytes.{is_letter, foreign_byte, IsName}
+use Rattle.lc_base.specs.NameBytes.{is_letter, foreign_byte, IsName}
 use Rattle.contract_tokens.specs.declared.edition.TheConstants.{SECOND_EDITION}
 use Rattle.contract_tokens.specs.declared.token.Mark.{Mark}
 use Rattle.contract_tokens.specs.declared.token.Mark.TheVariants as marks

@@ -4,7 +4,7 @@ use Rattle.std.specs.Prelude.{decimal, pos}
 use Rattle.std.specs.List.{list_all}
 use Rattle.std.proofs.lemmas.Bool.{and_from}
 use Rattle.std.proofs.lemmas.Fmt.{decimal_injective}
-use Rattle.lc_names.specs.NameBytes.{is_letter, is_name_byte}
+use Rattle.lc_base.specs.NameBytes.{is_letter, is_name_byte}
 use Rattle.contract_tokens.specs.declared.token.Mark.{Mark}
 use Rattle.contract_tokens.specs.declared.token.Word.{Word}
 use Rattle.contract_tokens.specs.declared.token.Word.TheVariants as words

@@ -1,7 +1,7 @@
 -- The tokens of the contract language, in terms of the bytes that spell them.
 use Rattle.std.specs.Prelude.{◌≡◌, ◌≢◌, ℕ, ◌^◌, ◌<◌, ◌≤◌, Bool, true, false, ◌&&◌, ◌||◌, not, ◌==◌, nat_le, List, [], ◌∷◌, ◌++◌, length, pos, decimal}
 use Rattle.std.specs.List.{list_all, flat_map}
-use Rattle.lc_names.specs.NameBytes.{is_letter, is_name_byte, IsName}
+use Rattle.lc_base.specs.NameBytes.{is_letter, is_name_byte, IsName}
 use Rattle.lc_base.specs.TextBytes.{is_text_byte}
 use Rattle.contract_tokens.specs.declared.limits.TheConstants.{MAX_LITERAL_BYTES}
 use Rattle.contract_tokens.specs.declared.token.Mark.{Mark}

@@ -2,9 +2,9 @@
 use Rattle.std.specs.Prelude.{ℕ, ◌+◌, ◌-◌, ◌*◌, ◌^◌, Bool, true, false, ◌&&◌, not, ◌==◌, nat_lt, if◌then◌else◌, List, [], ◌∷◌, ◌++◌, length, find, take_while, pos, Option, Some, None, Result, Ok, Err}
 use Rattle.std.specs.List.{prefix_len}
 use Rattle.std.specs.Cmp.Lexicographic.{pointwise}
-use Rattle.lc_names.specs.NameBytes.{is_letter, is_name_byte}
-use Rattle.lc_names.specs.Name.{name_of}
-use Rattle.lc_names.specs.declared.key.KeyError.{KeyError}
+use Rattle.lc_base.specs.NameBytes.{is_letter, is_name_byte}
+use Rattle.lc_base.specs.Name.{name_of}
+use Rattle.lc_base.specs.declared.key.KeyError.{KeyError}
 use Rattle.lc_base.specs.TextBytes.{is_text_byte}
 use Rattle.contract_tokens.specs.declared.limits.TheConstants.{MAX_LITERAL_BYTES}
 use Rattle.contract_tokens.specs.declared.token.Mark.{Mark}

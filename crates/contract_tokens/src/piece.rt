@@ -4,7 +4,7 @@ ghost use Rattle.std.specs.{
   Prelude.{◌≡◌, ℕ, ◌+◌, ◌-◌, ◌<◌, ◌^◌, not, ◌==◌, List, [], ◌∷◌, length, take, drop, IfOk},
   List.{prefix_len},
 };
-ghost use Rattle.lc_names.specs.NameBytes.{is_letter, is_name_byte};
+ghost use Rattle.lc_base.specs.NameBytes.{is_letter, is_name_byte};
 ghost use Rattle.contract_tokens.specs.{
   Lexemes.{is_blank, is_digit, newline},
   Pieces.{next_piece, nonempty_piece},

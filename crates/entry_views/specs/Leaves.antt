@@ -2,8 +2,8 @@
 use Rattle.std.proofs.Common.{◌≡◌, ℕ, zero, suc, ◌<◌, true, List, [], ◌∷◌, Option, Some, None, refl, arith, append_assoc}
 use Rattle.std.specs.Prelude.{nat_lt}
 use Rattle.std.proofs.lemmas.Bool.{ltb-true}
-use Rattle.lc_base.specs.lc_names.declared.limits.TheConstants.{MAX_KEY_BYTES}
-use Rattle.lc_base.specs.lc_names.KeyBytes.{IsKey, bad_key_byte}
+use Rattle.lc_base.specs.declared.name_limits.TheConstants.{MAX_KEY_BYTES}
+use Rattle.lc_base.specs.KeyBytes.{IsKey, bad_key_byte}
 use Rattle.byte_fields.specs.Spelling.{string_fields}
 use Rattle.byte_fields.specs.Reading.{key_unless_empty, key_or_empty_at}
 use Rattle.byte_fields.proofs.Laws.{IsField, renamed, bind_field, ret_field, then_field, made_field}

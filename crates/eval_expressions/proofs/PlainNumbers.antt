@@ -11,7 +11,7 @@ use Rattle.contract_semantics.specs.declared.variable.Variable.{Variable}
 use Rattle.contract_semantics.specs.Scenes.{Scene}
 use Rattle.contract_semantics.specs.Steps.{Machine, Done, step_of_result}
 use Rattle.contract_semantics.specs.Expressions.{variable_of, value_found, node_value}
-use Rattle.eval_variables.specs.Named.{value_in}
+use Rattle.eval_expressions.specs.Named.{value_in}
 use Rattle.eval_expressions.specs.PlainNumbers.{number_in, number_found, plain_number}
 
 of_value : (value : Value) (z : ℤ) (m : Machine) → number_in value ≡ Some z → Done value m ≡ Done (values.Int z) m

@@ -5,7 +5,7 @@ use Rattle.lc_base.specs.declared.value.Value.TheVariants as values
 use Rattle.contract_tree.specs.Tree.{Tree}
 use Rattle.contract_tree.specs.Tree as tree
 use Rattle.contract_semantics.specs.declared.variable.Variable.{Variable}
-use Rattle.eval_variables.specs.Named.{value_in}
+use Rattle.eval_expressions.specs.Named.{value_in}
 
 -- The number, if the value is one.
 abbrev pub number_in : Value → Option ℤ

@@ -6,14 +6,18 @@ ghost use Rattle.contract_semantics.specs.{
   Expressions.{variable_of, value_found, value_of, values_of, call_value, right_value, node_value},
   Answers.{IsResultOf, IsNoFault, Gives},
 };
-ghost use Rattle.eval_builtins.specs.Runs.{KeepsRun, Tells};
-ghost use Rattle.eval_expressions.specs.PlainNumbers.{number_found, plain_number};
+ghost use Rattle.eval_expressions.specs.{
+  Runs.{KeepsRun, Tells},
+  PlainNumbers.{number_found, plain_number},
+};
 
+use crate::builtin::{call_by_name, charge};
+use crate::operator::{binary_result, left_decision, prefix_result};
+use crate::reading::copy_of;
+use crate::run::Run;
+use crate::variables::Variables;
 use contract_semantics::{CHARGE_NODE, EvalStop};
 use contract_tree::{Expr, ExprNode, Sign};
-use eval_builtins::{Run, call_by_name, charge, copy_of};
-use eval_operators::{binary_result, left_decision, prefix_result};
-use eval_variables::Variables;
 use lc_base::{Duplicate, Host, Name, TxStatus, Value};
 use std::alloc::Global;
 

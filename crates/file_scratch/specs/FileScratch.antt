@@ -1,6 +1,6 @@
 -- The scratch device over a file: how much it keeps is known, but not which bytes.
 use Rattle.std.specs.Prelude.{◌≡◌, ℕ, ◌+◌, nat_le, None, Result, Ok, Err}
-use Rattle.scratch_model.specs.Scratch.{ScratchState, Serves}
+use Rattle.lc_io.specs.Scratch.{ScratchState, Serves}
 use Rattle.file_scratch.specs.declared.edge.FileScratch.{FileScratch}
 
 -- All bytes up to this end are kept, and it is not known which they are.

@@ -1,13 +1,11 @@
 //! The edge over a real file. No contract can name what the file holds, so it is not known.
 
 ghost use Rattle.std.specs.Prelude.{◌≡◌, true, false, None, length, IfOk, OnOk, IsErr, IsOk};
-ghost use Rattle.lc_io.specs.Streams.{CountsFaults};
-ghost use Rattle.scratch_model.specs.Scratch.{HoldsAt, IsKeptAt};
+ghost use Rattle.lc_io.specs.{Streams.{CountsFaults}, Scratch.{HoldsAt, IsKeptAt}};
 ghost use Rattle.file_scratch.specs.FileScratch.{unknown_up_to, PutsAtEnd, ServesUnknown};
 
 use lc_base::Memory;
-use lc_io::{Failed, one_more};
-use scratch_model::Scratch;
+use lc_io::{Failed, Scratch, one_more};
 use std::alloc::Global;
 use std::fs::{File, OpenOptions};
 use std::io::ErrorKind;

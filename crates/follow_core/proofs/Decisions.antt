@@ -6,15 +6,15 @@ use Rattle.std.proofs.lemmas.List.{append-nil, length-append}
 use Rattle.lc_base.specs.Faults.{HasCause}
 use Rattle.lc_base.specs.declared.digest.Digest.{Digest}
 use Rattle.lc_io.specs.Disk.{DiskState}
-use Rattle.scratch_model.specs.Scratch.{ScratchState, Serves}
+use Rattle.lc_io.specs.Scratch.{ScratchState, Serves}
 use Rattle.disk_model.specs.Disk.{Keeps}
 use Rattle.disk_model.proofs.Moments.{weaker}
 use Rattle.block_codec.specs.Placement.{bytes_digest}
 use Rattle.block_codec.specs.Reading.{block_in}
 use Rattle.block_codec.specs.declared.block.Block.{Block}
-use Rattle.recovery.specs.chain_replay.Judging.{Taken, judgement_of}
-use Rattle.recovery.specs.chain_replay.Judging as judging
-use Rattle.recovery.specs.chain_replay.declared.refusal.Refusal.{Refusal}
+use Rattle.follower_steps.specs.chain_replay.Judging.{Taken, judgement_of}
+use Rattle.follower_steps.specs.chain_replay.Judging as judging
+use Rattle.follower_steps.specs.chain_replay.declared.refusal.Refusal.{Refusal}
 use Rattle.recovery.specs.Node.{NodeState, IsNodeOf, IsAppendAnswer, IsNodeAfter, IsStepOf, IfNode}
 use Rattle.recovery.specs.Node.{Blames}
 use Rattle.recovery.specs.Node.{is_disk_fault, is_scratch_fault, blocks_after, logged_in, chain_in}

@@ -16,8 +16,8 @@ use Rattle.block_codec.specs.declared.block.Block.{Block}
 use Rattle.block_codec.specs.declared.placement.Placement.{Placement}
 use Rattle.block_codec.specs.declared.placement.Placement.TheVariants as placements
 use Rattle.block_codec.specs.declared.placement.Misplaced.TheVariants as misplaced
-use Rattle.recovery.specs.chain_replay.Judging.{judgement_of, judged_by_placement}
-use Rattle.recovery.specs.chain_replay.declared.refusal.Refusal.TheVariants as refusals
+use Rattle.follower_steps.specs.chain_replay.Judging.{judgement_of, judged_by_placement}
+use Rattle.follower_steps.specs.chain_replay.declared.refusal.Refusal.TheVariants as refusals
 use Rattle.recovery.specs.Node.{NodeState, IsNodeOf, IsStepOf, chain_in, logged_in}
 use Rattle.recovery.specs.Node.{stored_placement}
 use Rattle.recovery.proofs.Nodes.{still}

@@ -9,7 +9,7 @@ use Rattle.std.proofs.lemmas.Option.{slice_get-get_or}
 use Rattle.lc_base.specs.Faults.{HasCause}
 use Rattle.lc_io.specs.Disk.{DiskState}
 use Rattle.disk_model.specs.Disk.{Keeps}
-use Rattle.scratch_model.specs.Scratch.{ScratchState, Serves}
+use Rattle.lc_io.specs.Scratch.{ScratchState, Serves}
 use Rattle.recovery.specs.Node.{NodeState, KeepsLog, stored_placement}
 use Rattle.follower_steps.specs.declared.waiting.Waiting.{Waiting}
 use Rattle.follower_steps.specs.Steps.{State, Step, AreAhead, decided, further_turn, turn_at}

@@ -2,7 +2,7 @@
 use Rattle.std.proofs.Common.{◌≡◌, ℕ, [], ◌∷◌, refl}
 use Rattle.lc_base.specs.declared.digest.Digest.{Digest}
 use Rattle.block_codec.specs.declared.placement.Misplaced.TheVariants.{Fork}
-use Rattle.recovery.specs.chain_replay.declared.refusal.Refusal.TheVariants.{Placed}
+use Rattle.follower_steps.specs.chain_replay.declared.refusal.Refusal.TheVariants.{Placed}
 use Rattle.follower_steps.specs.declared.cause.Cause.TheVariants.{Refused}
 use Rattle.follow_core.specs.declared.turn.Turn.TheVariants.{Known, Dropped}
 use Rattle.follow_core.specs.Turning.{held_turn}

@@ -3,9 +3,9 @@ use Rattle.std.specs.Prelude.{◌≡◌, ◌⊎◌, ℕ, List, [], ◌∷◌, �
 use Rattle.std.specs.Prelude.{Result, Ok, Err}
 use Rattle.lc_io.specs.Disk.{DiskState}
 use Rattle.block_codec.specs.declared.block.Block.{Block}
-use Rattle.recovery.specs.rooted_chain.chain_exec.Compiled.{compiled_in}
-use Rattle.recovery.specs.rooted_chain.chain_exec.Fold.{block_effects}
-use Rattle.recovery.specs.rooted_chain.chain_exec.Replay.{replay}
+use Rattle.chain_exec.specs.Compiled.{compiled_in}
+use Rattle.chain_exec.specs.Fold.{block_effects}
+use Rattle.chain_exec.specs.Replay.{replay}
 use Rattle.recovery.specs.rooted_chain.Roots.{root_in}
 use Rattle.recovery.specs.Node.{NodeState, IsNodeOf, chain_in}
 use Rattle.follower_steps.specs.declared.waiting.Waiting.{Waiting}

@@ -7,8 +7,8 @@ use Rattle.lc_base.specs.declared.digest.Digest.{Digest}
 use Rattle.lc_io.specs.Disk.{DiskState}
 use Rattle.block_codec.specs.Placement.{bytes_digest, is_same_digest}
 use Rattle.block_codec.specs.declared.placement.Misplaced.TheVariants as misplaced
-use Rattle.recovery.specs.chain_replay.declared.refusal.Refusal.{Refusal}
-use Rattle.recovery.specs.chain_replay.declared.refusal.Refusal.TheVariants as refusals
+use Rattle.follower_steps.specs.chain_replay.declared.refusal.Refusal.{Refusal}
+use Rattle.follower_steps.specs.chain_replay.declared.refusal.Refusal.TheVariants as refusals
 use Rattle.recovery.specs.Node.{NodeState, KeepsLog}
 use Rattle.recovery.specs.declared.node.Appended.{Appended}
 use Rattle.recovery.specs.declared.node.Appended.TheVariants as appendeds

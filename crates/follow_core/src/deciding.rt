@@ -14,7 +14,7 @@ ghost use Rattle.block_codec.specs.{
   declared.block.Block.{Block as Blocks},
 };
 ghost use Rattle.disk_model.specs.{Disk.{Keeps, content_of}, Leaving.{LeavesWire}};
-ghost use Rattle.scratch_model.specs.Scratch.{is_known, Serves};
+ghost use Rattle.lc_io.specs.Scratch.{is_known, Serves};
 ghost use Rattle.recovery.specs.Node.{HandsBack, IsReady, KeepsLog, is_refusal, stored_placement};
 ghost use Rattle.follower_steps.specs.Steps.{AreAhead, State, decided, position_of};
 ghost use Rattle.follow_core.specs.{
@@ -27,10 +27,10 @@ use crate::follower::Follower;
 use crate::turn::{FollowFault, Turn};
 use block_codec::{Misplaced, block_digest};
 use disk_model::Disk;
-use follower_steps::{Cause, Waiting};
+use follower_steps::{Cause, Refusal, Waiting};
 use lc_base::Digest;
-use recovery::{AppendError, Appended, Node, Refusal};
-use scratch_model::Scratch;
+use lc_io::Scratch;
+use recovery::{AppendError, Appended, Node};
 use std::alloc::Global;
 
 /// What became of a block that was not refused.

@@ -5,7 +5,7 @@ ghost use Rattle.std.specs.{
 };
 ghost use Rattle.lc_base.specs.Faults.{HasCause};
 ghost use Rattle.disk_model.specs.{Disk.{Keeps, content_of}, Leaving.{LeavesWire}};
-ghost use Rattle.scratch_model.specs.Scratch.{is_known, Serves};
+ghost use Rattle.lc_io.specs.Scratch.{is_known, Serves};
 ghost use Rattle.block_codec.specs.Reading.{block_in};
 ghost use Rattle.recovery.specs.Node.{IsReady, KeepsLog, stored_placement};
 ghost use Rattle.follower_steps.specs.Steps.{State, arrival_in, first_turn};
@@ -19,7 +19,7 @@ use crate::turn::{FollowFault, Turn};
 use disk_model::Disk;
 use follower_steps::{Arrival, Waiting, arrival_in};
 use lc_base::{Bytes, Memory};
-use scratch_model::Scratch;
+use lc_io::Scratch;
 use std::alloc::Global;
 
 impl Follower {

@@ -6,7 +6,7 @@ ghost use Rattle.std.specs.{
 };
 ghost use Rattle.lc_base.specs.Faults.{HasCause};
 ghost use Rattle.disk_model.specs.{Disk.{Keeps, content_of}, Leaving.{LeavesWire}};
-ghost use Rattle.scratch_model.specs.Scratch.{is_known, Serves};
+ghost use Rattle.lc_io.specs.Scratch.{is_known, Serves};
 ghost use Rattle.recovery.specs.Node.{IsReady, stored_placement};
 ghost use Rattle.follower_steps.specs.{
   Steps.{State, further_turn, position_of},
@@ -21,7 +21,7 @@ use crate::follower::Follower;
 use crate::turn::{FollowFault, Turn};
 use disk_model::Disk;
 use follower_steps::position_of;
-use scratch_model::Scratch;
+use lc_io::Scratch;
 use std::alloc::Global;
 
 /// A turn that was made, where there may be none.

@@ -9,5 +9,4 @@ mod follower;
 mod turn;
 
 pub use follower::Follower;
-pub use follower_steps::{Cause, MAX_AHEAD, Waiting};
 pub use turn::{FollowFault, Turn};

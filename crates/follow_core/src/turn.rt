@@ -1,6 +1,7 @@
 //! What becomes of a block, and why a follower stops.
 
-use follower_steps::{Cause, ReceiptList};
+use chain_exec::ReceiptList;
+use follower_steps::Cause;
 use lc_base::Digest;
 
 /// What became of a block in one turn.

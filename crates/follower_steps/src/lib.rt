@@ -8,7 +8,7 @@ mod limits;
 mod waiting;
 
 pub use cause::Cause;
-pub use chain_replay::ReceiptList;
+pub use chain_replay::{Receipt, Refusal};
 pub use laws::{
     acknowledged_never_falls, deliveries_leave_none_due, follows_the_leader,
     refuses_none_for_number, waits_nearby,

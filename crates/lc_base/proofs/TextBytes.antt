@@ -13,7 +13,7 @@ use Rattle.std.proofs.lemmas.List.Sums.{position_or_len_is, fails_before_first}
 use Rattle.std.proofs.lemmas.Str.Parse.{digit_at}
 use Rattle.std.proofs.lemmas.Fmt.{decimal_is_IsNumeral, length-decimal-le}
 use Rattle.lc_base.specs.declared.limits.TheConstants.{MAX_TEXT_BYTES}
-use Rattle.lc_names.specs.KeyBytes.{IsKey, is_key_byte}
+use Rattle.lc_base.specs.KeyBytes.{IsKey, is_key_byte}
 use Rattle.lc_base.specs.TextBytes.{IsText, is_text_byte}
 
 -- ---- no byte is bad

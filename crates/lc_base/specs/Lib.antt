@@ -1,3 +1,8 @@
+pub mod Padding
+pub mod KeyBytes
+pub mod Key
+pub mod NameBytes
+pub mod Name
 pub mod Answers
 pub mod Faults
 pub mod TextBytes
@@ -6,4 +11,3 @@ pub mod History
 pub mod Parts
 pub mod Deps
 pub mod TxStatus
-pub use Rattle.lc_names.specs as lc_names

@@ -1,8 +1,8 @@
 //! Questions about the newest version of a key up to a block, and their answers.
 
+use crate::key::Key;
 use crate::list::DepList;
 use crate::value::Value;
-use lc_names::Key;
 
 /// What is asked about the version of a key.
 #[derive(Clone, Copy)]

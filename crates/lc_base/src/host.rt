@@ -10,8 +10,8 @@ ghost use Rattle.lc_base.specs.{
 
 use crate::answer::Kind;
 use crate::host_error::HostError;
+use crate::key::Key;
 use crate::row::{Dep, Row, Version};
-use lc_names::Key;
 use std::alloc::Global;
 
 /// A history that answers questions one part at a time. "The version" is the newest version of the

@@ -6,10 +6,10 @@ ghost use Rattle.std.specs.{
 };
 
 use crate::digest::Digest;
+use crate::key::Key;
 use crate::memory::Memory;
 use crate::row::{Dep, Row, Version};
 use crate::value::Value;
-use lc_names::Key;
 use std::alloc::Global;
 use std::marker::Model;
 

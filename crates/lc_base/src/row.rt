@@ -1,9 +1,9 @@
 ghost use Rattle.std.specs.Prelude.{◌≡◌, Ok};
 
+use crate::key::Key;
 use crate::list::{DepList, Duplicate};
 use crate::memory::Memory;
 use crate::value::Value;
-use lc_names::Key;
 use std::alloc::Global;
 
 /// A version that another was derived from: a key, and the block of that version.

@@ -7,9 +7,9 @@ ghost use Rattle.lc_base.specs.{
   declared.text.TextError.TheVariants.{Memory},
 };
 
+use crate::key::Key;
 use crate::limits::{MAX_JOINED_BYTES, MAX_TEXT_BYTES};
 use crate::list::Duplicate;
-use lc_names::Key;
 use std::alloc::{AllocError, Global};
 use std::marker::Model;
 use thiserror::Error;
@@ -92,7 +92,7 @@ impl Text {
     }
 
     /// The bytes of a key, which are always a text.
-    pub fn from_key(alloc: Global, key: &Key) -> Result<Text, crate::Memory>
+    pub fn from_key(alloc: Global, key: &Key) -> Result<Text, crate::memory::Memory>
         ensures { IfOk result (λ text. text ≡ key.now) }
     {
         let bytes = Vec::from_slice(alloc, key.as_bytes())?;
@@ -100,7 +100,7 @@ impl Text {
     }
 
     /// A number in decimal digits, with `-` before them if it is negative.
-    pub fn from_number(alloc: Global, number: i64) -> Result<Text, crate::Memory>
+    pub fn from_number(alloc: Global, number: i64) -> Result<Text, crate::memory::Memory>
         ensures { IfOk result (λ text. text ≡ signed_decimal number) }
     {
         let bytes = number.to_string(alloc)?.into_bytes();
@@ -108,7 +108,7 @@ impl Text {
     }
 
     /// This text followed by another, or `None` if that has more than `MAX_JOINED_BYTES`.
-    pub fn join(&self, alloc: Global, other: &Text) -> Result<Option<Text>, crate::Memory>
+    pub fn join(&self, alloc: Global, other: &Text) -> Result<Option<Text>, crate::memory::Memory>
         ensures { IfOk result (λ text. text ≡ joined_text self.now other.now) }
     {
         let first = self.as_bytes();
@@ -121,7 +121,7 @@ impl Text {
     }
 }
 
-fn join_bytes(alloc: Global, a: &[u8], b: &[u8]) -> Result<Vec<u8>, crate::Memory>
+fn join_bytes(alloc: Global, a: &[u8], b: &[u8]) -> Result<Vec<u8>, crate::memory::Memory>
     ensures { IfOk result (λ bytes. bytes.items ≡ a.now ++ b.now) }
 {
     let mut bytes = Vec::with_capacity(alloc, a.len() + b.len())?;
@@ -131,7 +131,7 @@ fn join_bytes(alloc: Global, a: &[u8], b: &[u8]) -> Result<Vec<u8>, crate::Memor
 }
 
 impl Duplicate for Text {
-    fn copy(&self, alloc: Global) -> Result<Text, crate::Memory> {
+    fn copy(&self, alloc: Global) -> Result<Text, crate::memory::Memory> {
         let bytes = Vec::from_slice(alloc, &self.bytes)?;
         Ok(Text { bytes })
     }

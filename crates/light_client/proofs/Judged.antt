@@ -7,10 +7,10 @@ use Rattle.std.proofs.lemmas.Option.{slice_get_cases, slice_get_past}
 use Rattle.std.proofs.lemmas.Slice.Eq.{bytes_eq-Decides}
 use Rattle.lc_base.specs.declared.answer.Answer.{Answer}
 use Rattle.lc_base.specs.declared.digest.Digest.{Digest}
-use Rattle.proof_checks.specs.proof_codec.declared.proof.Proof.{Proof}
-use Rattle.proof_checks.specs.declared.reject.Reject.{Reject}
-use Rattle.proof_checks.specs.Checks.{judgement}
-use Rattle.light_file.specs.declared.block_root.BlockRoot.{BlockRoot}
+use Rattle.proof_codec.specs.declared.proof.Proof.{Proof}
+use Rattle.proof_verifier.specs.proof_checks.declared.reject.Reject.{Reject}
+use Rattle.proof_verifier.specs.proof_checks.Checks.{judgement}
+use Rattle.light_client.specs.declared.block_root.BlockRoot.{BlockRoot}
 use Rattle.light_client.specs.declared.reject.LightReject.{LightReject}
 use Rattle.light_client.specs.declared.reject.LightReject.TheVariants.{Malformed, Unknown}
 use Rattle.light_client.specs.declared.reject.LightReject.TheVariants.{DigestDiffers, Rejected}

@@ -1,3 +1,8 @@
+pub mod BlockRoots
+pub mod Files
+pub mod Taking
+pub mod Answering
 pub mod Judged
 pub mod Verdicts
-pub use Rattle.proof_checks.proofs as proof_checks
+pub mod Made
+pub mod Pieces

@@ -10,21 +10,21 @@ use Rattle.lc_base.specs.declared.digest.Digest.{Digest}
 use Rattle.lc_base.specs.declared.row.Row.{Row}
 use Rattle.byte_fields.specs.Prefixes.{IsLongestPrefix}
 use Rattle.byte_fields.specs.Spelling.{IsBytes}
-use Rattle.proof_checks.specs.root_laws.TypedLedger.{IsTypedHistory}
-use Rattle.proof_checks.specs.proof_codec.Spelling.{IsProof, proof_fields}
-use Rattle.proof_checks.specs.proof_codec.declared.proof.Proof.{Proof}
-use Rattle.proof_views.specs.Viewing.{Spells, proof_in}
-use Rattle.proof_views.specs.declared.proof_view.ViewError.TheVariants as views
-use Rattle.proof_views.proofs.Viewed.{is_read, found_this, fault_this}
-use Rattle.proof_checks.specs.declared.reject.Reject.{Reject}
-use Rattle.proof_checks.specs.Checks.{judgement}
-use Rattle.proof_checks.specs.ProofTexts.{proof_texts}
-use Rattle.proof_checks.specs.Soundness.{AnswersOrClashes}
-use Rattle.proof_checks.proofs.Tests.{own_verdict}
-use Rattle.proof_checks.proofs.Sound.{judged_is_sound}
+use Rattle.root_laws.specs.TypedLedger.{IsTypedHistory}
+use Rattle.proof_codec.specs.Spelling.{IsProof, proof_fields}
+use Rattle.proof_codec.specs.declared.proof.Proof.{Proof}
+use Rattle.proof_codec.specs.Viewing.{Spells, proof_in}
+use Rattle.proof_codec.specs.declared.proof_view.ViewError.TheVariants as views
+use Rattle.proof_codec.proofs.Viewed.{is_read, found_this, fault_this}
+use Rattle.proof_verifier.specs.proof_checks.declared.reject.Reject.{Reject}
+use Rattle.proof_verifier.specs.proof_checks.Checks.{judgement}
+use Rattle.proof_verifier.specs.proof_checks.ProofTexts.{proof_texts}
+use Rattle.proof_verifier.specs.proof_checks.Soundness.{AnswersOrClashes}
+use Rattle.proof_verifier.proofs.proof_checks.Tests.{own_verdict}
+use Rattle.proof_verifier.proofs.proof_checks.Sound.{judged_is_sound}
 use Rattle.proof_verifier.specs.Answering.{answer_seen, HasValue}
 use Rattle.proof_verifier.proofs.Sounded.{read_value}
-use Rattle.light_file.specs.declared.block_root.BlockRoot.{BlockRoot}
+use Rattle.light_client.specs.declared.block_root.BlockRoot.{BlockRoot}
 use Rattle.light_client.specs.declared.checking.Checked.{Checked}
 use Rattle.light_client.specs.declared.reject.LightReject.{LightReject}
 use Rattle.light_client.specs.declared.reject.LightReject.TheVariants.{Malformed, Unknown}

@@ -4,14 +4,14 @@ use Rattle.std.specs.Prelude.{Option, Some, None, Result, Ok, Err}
 use Rattle.std.specs.Cmp.Lexicographic.{pointwise}
 use Rattle.lc_base.specs.declared.answer.Answer.{Answer}
 use Rattle.lc_base.specs.declared.answer.Query.{Query}
-use Rattle.proof_checks.specs.proof_codec.declared.proof.Proof.{Proof}
+use Rattle.proof_codec.specs.declared.proof.Proof.{Proof}
 use Rattle.byte_fields.specs.Prefixes.{IsLongestPrefix}
-use Rattle.proof_checks.specs.proof_codec.Spelling.{IsProof, proof_fields}
-use Rattle.proof_views.specs.Viewing.{Spells, proof_in}
-use Rattle.proof_checks.specs.declared.reject.Reject.{Reject}
-use Rattle.proof_checks.specs.Checks.{judgement}
+use Rattle.proof_codec.specs.Spelling.{IsProof, proof_fields}
+use Rattle.proof_codec.specs.Viewing.{Spells, proof_in}
+use Rattle.proof_verifier.specs.proof_checks.declared.reject.Reject.{Reject}
+use Rattle.proof_verifier.specs.proof_checks.Checks.{judgement}
 use Rattle.proof_verifier.specs.Answering.{answer_seen}
-use Rattle.light_file.specs.declared.block_root.BlockRoot.{BlockRoot}
+use Rattle.light_client.specs.declared.block_root.BlockRoot.{BlockRoot}
 use Rattle.light_client.specs.declared.checking.Checked.{Checked}
 use Rattle.light_client.specs.declared.reject.LightReject.{LightReject}
 use Rattle.light_client.specs.declared.reject.LightReject.TheVariants.{Malformed, Unknown}

@@ -2,8 +2,8 @@
 use Rattle.std.specs.Prelude.{◌≡◌, ◌≤◌, ℕ, List, length, slice_get, Some}
 use Rattle.lc_base.specs.declared.digest.Digest.{Digest}
 use Rattle.lc_base.specs.declared.row.Row.{Row}
-use Rattle.proof_checks.specs.root_laws.Root.{root_of}
-use Rattle.light_file.specs.declared.block_root.BlockRoot.{BlockRoot}
+use Rattle.root_laws.specs.Root.{root_of}
+use Rattle.light_client.specs.declared.block_root.BlockRoot.{BlockRoot}
 
 -- The light file is of the first blocks of a ledger: the ledger has at least as many blocks, and
 -- those of the file have the digests and the roots of the file.

@@ -1,4 +1,7 @@
+pub mod Format
+pub mod Reading
+pub mod FileLaws
 pub mod Checking
 pub mod Ledgers
-pub use Rattle.light_file.specs as light_file
-pub use Rattle.proof_verifier.specs as proof_verifier
+pub mod Making
+pub mod MadeLaws

@@ -10,29 +10,31 @@ ghost use Rattle.lc_base.specs.{
   declared.row.Row.{Row},
 };
 ghost use Rattle.byte_fields.specs.Prefixes.{IsLongestPrefix};
-ghost use Rattle.proof_views.specs.Viewing.{Spells};
-ghost use Rattle.proof_checks.specs.{
-  root_laws.TypedLedger.{IsTypedHistory},
-  proof_codec.Spelling.{IsProof, proof_fields},
-  proof_codec.declared.proof.Proof.{Proof as ProofValue},
-  Checks.{judgement},
-  ProofTexts.{proof_texts},
-  Soundness.{AnswersOrClashes},
-  declared.reject.Reject.{Reject as RejectValue},
+ghost use Rattle.proof_codec.specs.{
+  Viewing.{Spells},
+  Spelling.{IsProof, proof_fields},
+  declared.proof.Proof.{Proof as ProofValue},
 };
-ghost use Rattle.proof_verifier.specs.Answering.{answer_seen, HasValue};
-ghost use Rattle.light_file.specs.declared.block_root.BlockRoot.{BlockRoot as BlockRootValue};
+ghost use Rattle.root_laws.specs.TypedLedger.{IsTypedHistory};
+ghost use Rattle.proof_verifier.specs.{
+  proof_checks.Checks.{judgement},
+  proof_checks.ProofTexts.{proof_texts},
+  proof_checks.Soundness.{AnswersOrClashes},
+  proof_checks.declared.reject.Reject.{Reject as RejectValue},
+  Answering.{answer_seen, HasValue},
+};
 ghost use Rattle.light_client.specs.{
+  declared.block_root.BlockRoot.{BlockRoot as BlockRootValue},
   Checking.{light_answer, light_verdict, checked_seen, reject_told, malformed_at, HasBlockOf},
   Ledgers.{IsFileOf},
   declared.reject.LightReject.TheVariants.{Unknown, DigestDiffers, Rejected},
 };
 
+use crate::light_file::LightFile;
 use crate::reject::LightReject;
 use lc_base::Query;
-use light_file::LightFile;
+use proof_codec::{ViewError, view};
 use proof_verifier::{Found, judge};
-use proof_views::{ViewError, view};
 
 /// What a proof that a light file accepts answers.
 #[derive(Drop)]

@@ -1,8 +1,8 @@
 //! The program: it runs on its words, and exits with the number of the status.
 #![tactic(auto)]
 
-use cli_program::{exit_of, run_on_host};
-use resources::Resources;
+use chain_cli::{exit_of, run_on_host};
+use lc_base::Resources;
 use std::env;
 use std::process::ExitCode;
 

@@ -9,16 +9,16 @@ use Rattle.lc_base.specs.declared.limits.TheConstants.{MAX_ROWS}
 use Rattle.lc_base.specs.declared.row.Row.{Row}
 use Rattle.lc_base.specs.declared.row.Dep.{Dep}
 use Rattle.lc_base.specs.History.{HasLawfulDeps, newest}
-use Rattle.prov_entry.specs.declared.entry.Leaf.{Leaf}
-use Rattle.lineage_store.specs.root_laws.Root.{is_among, keys_of}
-use Rattle.lineage_store.proofs.root_laws.Lists.{all_weaker, all_append, option_cases, not_both}
-use Rattle.lineage_store.proofs.root_laws.Lists.{some_last, or_true}
-use Rattle.lineage_store.proofs.root_laws.Keys.{among_is_some, all_among}
-use Rattle.lineage_store.proofs.root_laws.Growing.{newest_append}
+use Rattle.entry_views.specs.prov_entry.declared.entry.Leaf.{Leaf}
+use Rattle.plain_rows.specs.root_laws.Root.{is_among, keys_of}
+use Rattle.plain_rows.proofs.root_laws.Lists.{all_weaker, all_append, option_cases, not_both}
+use Rattle.plain_rows.proofs.root_laws.Lists.{some_last, or_true}
+use Rattle.plain_rows.proofs.root_laws.Keys.{among_is_some, all_among}
+use Rattle.plain_rows.proofs.root_laws.Growing.{newest_append}
 use Rattle.forward_links.specs.declared.kept_list.KeptList.{KeptList}
-use Rattle.lineage_store.specs.entry_store.Entries.{Entry as StoreEntry}
-use Rattle.lineage_store.specs.Entries.{entries_of}
-use Rattle.lineage_store.proofs.Entries.{as_many}
+use Rattle.skip_list.specs.entry_store.Entries.{Entry as StoreEntry}
+use Rattle.lineage_index.specs.Entries.{entries_of}
+use Rattle.lineage_index.proofs.StoreEntries.{as_many}
 use Rattle.lineage_index.specs.Growth.{
   Grows,
   IsOnNewest,

@@ -7,10 +7,10 @@ use Rattle.std.proofs.lemmas.Bool.{and_right, ne_eqb}
 use Rattle.lc_base.specs.declared.row.Row.{Row}
 use Rattle.lc_base.specs.declared.row.Dep.{Dep}
 use Rattle.lc_base.specs.History.{HasLawfulDeps, IsRecordedFrom, below, newest, uses, depends_on, version_of}
-use Rattle.lineage_store.specs.root_laws.Naming.{closed_uses, uses_of}
-use Rattle.lineage_store.proofs.root_laws.Lists.{all_weaker, all_back, keep_none}
-use Rattle.lineage_store.proofs.root_laws.Growing.{below_now}
-use Rattle.lineage_store.proofs.root_laws.Headers.{recorded_is_older}
+use Rattle.plain_rows.specs.root_laws.Naming.{closed_uses, uses_of}
+use Rattle.plain_rows.proofs.root_laws.Lists.{all_weaker, all_back, keep_none}
+use Rattle.plain_rows.proofs.root_laws.Growing.{below_now}
+use Rattle.plain_rows.proofs.root_laws.Headers.{recorded_is_older}
 use Rattle.lineage_index.specs.Growth.{Grows, IsOnNewest}
 
 pub rows_before : (rows new : List Row) (n : ℕ) → Grows rows new n → AllByRecursion (λ (row : Row). row.block < n) rows

@@ -5,9 +5,9 @@ use Rattle.std.specs.Cmp.Lexicographic.{pointwise}
 use Rattle.std.proofs.lemmas.List.{map-append}
 use Rattle.std.proofs.lemmas.List.Elements.{recursion_from_All}
 use Rattle.std.proofs.lemmas.Bool.{cases_Bool}
-use Rattle.lineage_store.specs.root_laws.Root.{is_among}
-use Rattle.lineage_store.proofs.root_laws.Lists.{all_weaker, map_on, not_both}
-use Rattle.lineage_store.proofs.root_laws.Keys.{same_key, key_is_key}
+use Rattle.plain_rows.specs.root_laws.Root.{is_among}
+use Rattle.plain_rows.proofs.root_laws.Lists.{all_weaker, map_on, not_both}
+use Rattle.plain_rows.proofs.root_laws.Keys.{same_key, key_is_key}
 use Rattle.lineage_index.specs.Growth.{changed_at}
 
 apart_of : (key : List ℕ) (keys : List (List ℕ)) → AllPairs ◌≢◌ (key ∷ keys) → AllByRecursion (λ (other : List ℕ). key ≢ other) keys

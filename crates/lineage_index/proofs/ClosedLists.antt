@@ -7,9 +7,9 @@ use Rattle.std.proofs.lemmas.Bool.{cases_Bool}
 use Rattle.lc_base.specs.declared.row.Row.{Row}
 use Rattle.lc_base.specs.History.{newest, uses}
 use Rattle.forward_links.specs.Lists.{Use}
-use Rattle.lineage_store.proofs.root_laws.Lists.{option_cases, or_false, some_last}
-use Rattle.lineage_store.proofs.root_laws.Growing.{newest_append}
-use Rattle.lineage_store.proofs.root_laws.Headers.{newest_has}
+use Rattle.plain_rows.proofs.root_laws.Lists.{option_cases, or_false, some_last}
+use Rattle.plain_rows.proofs.root_laws.Growing.{newest_append}
+use Rattle.plain_rows.proofs.root_laws.Headers.{newest_has}
 use Rattle.lineage_index.specs.Growth.{Grows, open_uses, uses_at, list_after_rows, is_of_key}
 use Rattle.lineage_index.specs.Growth.{changed_at}
 use Rattle.lineage_index.specs.Heads.{open_list}

@@ -13,18 +13,18 @@ use Rattle.std.proofs.lemmas.Option.{slice_get_within}
 use Rattle.lc_base.specs.declared.row.Row.{Row}
 use Rattle.lc_base.specs.declared.row.Dep.{Dep}
 use Rattle.lc_base.specs.History.{StandsBefore, depends_on, newest, version_of}
-use Rattle.rows_index.specs.Places.{marks_of}
-use Rattle.rows_index.specs.Users.{number_of, users}
-use Rattle.rows_index.proofs.Marked.{get_here}
-use Rattle.rows_index.proofs.UsedEnd.{at_front, get_front}
-use Rattle.rows_index.proofs.Versions.{version_index}
+use Rattle.plain_rows.specs.Places.{marks_of}
+use Rattle.plain_rows.specs.Users.{number_of, users}
+use Rattle.plain_rows.proofs.Marked.{get_here}
+use Rattle.plain_rows.proofs.UsedEnd.{at_front, get_front}
+use Rattle.plain_rows.proofs.Versions.{version_index}
 use Rattle.forward_links.specs.Lists.{rows_of}
-use Rattle.lineage_store.specs.skip_links.Versions.{newest_index}
-use Rattle.lineage_store.proofs.skip_links.Threads.{newest_more}
-use Rattle.lineage_store.specs.root_laws.Root.{is_among, keys_of}
-use Rattle.lineage_store.proofs.root_laws.Headers.{newest_is_key}
-use Rattle.lineage_store.proofs.root_laws.Keys.{among_is_some, key_is_key, same_key}
-use Rattle.lineage_store.proofs.root_laws.Lists.{not_both, option_cases, some_last}
+use Rattle.skip_links.specs.Versions.{newest_index}
+use Rattle.skip_links.proofs.Threads.{newest_more}
+use Rattle.plain_rows.specs.root_laws.Root.{is_among, keys_of}
+use Rattle.plain_rows.proofs.root_laws.Headers.{newest_is_key}
+use Rattle.plain_rows.proofs.root_laws.Keys.{among_is_some, key_is_key, same_key}
+use Rattle.plain_rows.proofs.root_laws.Lists.{not_both, option_cases, some_last}
 use Rattle.lineage_index.specs.Growth.{IsOnNewest, is_of_key, uses_at}
 use Rattle.lineage_index.specs.Heads.{KeyStates, index_or_zero, newest_at}
 use Rattle.lineage_index.specs.Closed.{AreClosed, CanClose, closed_users, closed_with}

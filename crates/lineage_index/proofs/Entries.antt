@@ -12,13 +12,13 @@ use Rattle.std.proofs.lemmas.Bool.{cases_Bool, and_left}
 use Rattle.lc_base.specs.declared.row.Row.{Row}
 use Rattle.lc_base.specs.declared.row.Dep.{Dep}
 use Rattle.lc_base.specs.History.{newest, uses, depends_on, version_of}
-use Rattle.lineage_store.specs.root_laws.Naming.{header_digest, digest_among}
-use Rattle.lineage_store.specs.root_laws.Root.{is_among, keys_of, block_of}
-use Rattle.lineage_store.proofs.root_laws.Lists.{all_weaker, option_cases, not_both, or_false}
-use Rattle.lineage_store.proofs.root_laws.Lists.{keep_none, some_last}
-use Rattle.lineage_store.proofs.root_laws.Keys.{same_key, among_is_some}
-use Rattle.lineage_store.proofs.root_laws.Growing.{earlier_versions_stay, uses_append}
-use Rattle.lineage_store.proofs.root_laws.Headers.{newest_has}
+use Rattle.plain_rows.specs.root_laws.Naming.{header_digest, digest_among}
+use Rattle.plain_rows.specs.root_laws.Root.{is_among, keys_of, block_of}
+use Rattle.plain_rows.proofs.root_laws.Lists.{all_weaker, option_cases, not_both, or_false}
+use Rattle.plain_rows.proofs.root_laws.Lists.{keep_none, some_last}
+use Rattle.plain_rows.proofs.root_laws.Keys.{same_key, among_is_some}
+use Rattle.plain_rows.proofs.root_laws.Growing.{earlier_versions_stay, uses_append}
+use Rattle.plain_rows.proofs.root_laws.Headers.{newest_has}
 use Rattle.lineage_index.specs.Growth.{Grows, Entry, entry_of, entry_after, deps_touched}
 use Rattle.lineage_index.specs.Growth.{keys_of_deps, keys_touched, is_of_key, changed_at}
 use Rattle.lineage_index.proofs.Blocks.{rows_before, rows_now}

@@ -1,8 +1,8 @@
 -- Of no rows, the sentinel is kept, and nothing else.
 use Rattle.std.proofs.Common.{[], ◌∷◌, refl, rules, arith}
 use Rattle.std.proofs.lemmas.Option.{none-some}
-use Rattle.lineage_store.specs.root_laws.Root.{sentinel}
-use Rattle.lineage_store.specs.Entries.{entries_after}
+use Rattle.plain_rows.specs.root_laws.Root.{sentinel}
+use Rattle.lineage_index.specs.Entries.{entries_after}
 use Rattle.lineage_index.specs.Blocks.{IsKeptIndex}
 
 pub kept_at_first : IsKeptIndex [] 0 (sentinel [] ∷ []) [] [] [] []

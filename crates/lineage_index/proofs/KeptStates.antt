@@ -6,14 +6,14 @@ use Rattle.std.proofs.lemmas.List.{length-map, map-append, map-set}
 use Rattle.std.proofs.lemmas.List.Folds.{list_any_at}
 use Rattle.std.proofs.lemmas.List.Quantifiers.{all_pairs_push}
 use Rattle.std.proofs.lemmas.Option.{slice_get_within, get_or_from_slice_get}
-use Rattle.prov_entry.specs.declared.entry.Leaf.{Leaf}
-use Rattle.lineage_store.specs.root_laws.Root.{is_among}
-use Rattle.lineage_store.proofs.root_laws.Lists.{not_both}
-use Rattle.lineage_store.proofs.root_laws.Keys.{key_is_key}
+use Rattle.entry_views.specs.prov_entry.declared.entry.Leaf.{Leaf}
+use Rattle.plain_rows.specs.root_laws.Root.{is_among}
+use Rattle.plain_rows.proofs.root_laws.Lists.{not_both}
+use Rattle.plain_rows.proofs.root_laws.Keys.{key_is_key}
 use Rattle.state_tree.specs.Leaves.{index_of, with_leaf_of}
 use Rattle.forward_links.specs.declared.kept_list.KeptList.{KeptList}
 use Rattle.forward_links.specs.Lists.{Use, kept_at, kept_of, emptied_at, rows_of}
-use Rattle.rows_index.proofs.Marked.{get_here}
+use Rattle.plain_rows.proofs.Marked.{get_here}
 use Rattle.lineage_index.specs.Growth.{Entry, leaf_with}
 use Rattle.lineage_index.specs.Heads.{leaves_with, KeyStates, AreHeads, AreLists, with_key_more, with_version_more, with_version}
 use Rattle.lineage_index.proofs.ByKey.{push_key}

@@ -10,10 +10,10 @@ use Rattle.std.proofs.lemmas.Bool.{cases_Bool}
 use Rattle.std.proofs.lemmas.List.{map-append, length-map, get_or-map}
 use Rattle.std.proofs.lemmas.Option.{slice_get-get_or}
 use Rattle.std.proofs.lemmas.Iterator.Adapters.{position_from-zero}
-use Rattle.prov_entry.specs.declared.entry.Leaf.{Leaf}
-use Rattle.lineage_store.specs.root_laws.Root.{is_among, sentinel, next_key}
-use Rattle.lineage_store.proofs.root_laws.Lists.{map_map, map_on, not_both}
-use Rattle.lineage_store.proofs.root_laws.Keys.{same_key, key_is_key}
+use Rattle.entry_views.specs.prov_entry.declared.entry.Leaf.{Leaf}
+use Rattle.plain_rows.specs.root_laws.Root.{is_among, sentinel, next_key}
+use Rattle.plain_rows.proofs.root_laws.Lists.{map_map, map_on, not_both}
+use Rattle.plain_rows.proofs.root_laws.Keys.{same_key, key_is_key}
 use Rattle.state_tree.specs.Leaves.{index_of, is_this, leaf_key, leaf_keys, with_next, fresh_leaf}
 use Rattle.state_tree.specs.Leaves.{with_leaf_of}
 use Rattle.state_tree.proofs.Keys.{none_below}

@@ -9,14 +9,15 @@ use Rattle.std.proofs.lemmas.List.{append-nil, append_assoc, length-map, get_or-
 use Rattle.std.proofs.lemmas.List.Elements.{All-from_recursion, recursion_from_All, All-contains, Contains-get_or}
 use Rattle.std.proofs.lemmas.Option.{get_or_from_slice_get}
 use Rattle.lc_base.specs.declared.row.Row.{Row}
-use Rattle.prov_entry.specs.declared.entry.Leaf.{Leaf}
-use Rattle.lineage_store.specs.root_laws.Root.{is_among, keys_of, sentinel}
-use Rattle.lineage_store.proofs.root_laws.Lists.{all_weaker, all_map, all_filter_map, not_both, option_cases}
-use Rattle.lineage_store.proofs.root_laws.Keys.{all_among}
+use Rattle.entry_views.specs.prov_entry.declared.entry.Leaf.{Leaf}
+use Rattle.plain_rows.specs.root_laws.Root.{is_among, keys_of, sentinel}
+use Rattle.plain_rows.proofs.root_laws.Lists.{all_weaker, all_map, all_filter_map, not_both}
+use Rattle.plain_rows.proofs.root_laws.Lists.{option_cases}
+use Rattle.plain_rows.proofs.root_laws.Keys.{all_among}
 use Rattle.state_tree.specs.declared.states.LeafState.{LeafState}
 use Rattle.state_tree.specs.Leaves.{index_of, with_state, with_states}
 use Rattle.forward_links.specs.declared.kept_list.KeptList.{KeptList}
-use Rattle.lineage_store.specs.entry_store.Entries.{Entry as StoreEntry}
+use Rattle.skip_list.specs.entry_store.Entries.{Entry as StoreEntry}
 use Rattle.lineage_index.specs.Growth.{Entry, entry_of, leaf_with, changed_at, entry_after}
 use Rattle.lineage_index.specs.Heads.{leaves_with}
 use Rattle.lineage_index.specs.Settling.{renewed_states, AreRenewing}

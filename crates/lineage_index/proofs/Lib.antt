@@ -1,3 +1,14 @@
+pub mod Versions
+pub mod Links
+pub mod Hops
+pub mod StoreEntries
+pub mod NextEntries
+pub mod OtherKeys
+pub mod ReadBack
+pub mod Looking
+pub mod MadeAgain
+pub mod Earlier
+pub mod OnPath
 pub mod Blocks
 pub mod ByKey
 pub mod Using
@@ -19,4 +30,5 @@ pub mod Listed
 pub mod BlockSteps
 pub mod Keeping
 pub mod NewestRows
-pub use Rattle.lineage_store.proofs as lineage_store
+pub use Rattle.plain_rows.proofs as plain_rows
+pub use Rattle.plain_rows.proofs.root_laws as root_laws

@@ -6,15 +6,15 @@ use Rattle.std.specs.Option.{is_some}
 use Rattle.std.proofs.lemmas.Option.{same_Some}
 use Rattle.lc_base.specs.declared.row.Row.{Row}
 use Rattle.lc_base.specs.History.{newest, uses}
-use Rattle.rows_index.specs.Users.{AreVersionsAt, users}
-use Rattle.rows_index.proofs.Using.{uses_at as versions_used}
+use Rattle.plain_rows.specs.Users.{AreVersionsAt, users}
+use Rattle.plain_rows.proofs.Using.{uses_at as versions_used}
 use Rattle.forward_links.specs.Lists.{rows_of}
-use Rattle.lineage_store.specs.root_laws.Root.{is_among, keys_of}
-use Rattle.lineage_store.proofs.root_laws.Headers.{newest_is_key}
-use Rattle.lineage_store.proofs.root_laws.Keys.{among_is_some}
-use Rattle.lineage_store.proofs.root_laws.Lists.{not_both}
+use Rattle.plain_rows.specs.root_laws.Root.{is_among, keys_of}
+use Rattle.plain_rows.proofs.root_laws.Headers.{newest_is_key}
+use Rattle.plain_rows.proofs.root_laws.Keys.{among_is_some}
+use Rattle.plain_rows.proofs.root_laws.Lists.{not_both}
 use Rattle.lineage_index.specs.Growth.{uses_at}
-use Rattle.lineage_store.specs.skip_links.Versions.{newest_index}
+use Rattle.skip_links.specs.Versions.{newest_index}
 use Rattle.lineage_index.specs.Heads.{index_or_zero, newest_at, open_list}
 use Rattle.lineage_index.specs.Closed.{IsOpenListOf, closed_users}
 use Rattle.lineage_index.proofs.ClosedRows.{newest_row, row_among}

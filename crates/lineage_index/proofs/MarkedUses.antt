@@ -5,10 +5,10 @@ use Rattle.std.proofs.lemmas.Bool.{cases_Bool}
 use Rattle.lc_base.specs.declared.row.Row.{Row}
 use Rattle.lc_base.specs.declared.row.Dep.{Dep}
 use Rattle.lc_base.specs.History.{depends_on, version_of}
-use Rattle.rows_index.specs.Places.{marks_of}
-use Rattle.rows_index.specs.Users.{number_of, users}
+use Rattle.plain_rows.specs.Places.{marks_of}
+use Rattle.plain_rows.specs.Users.{number_of, users}
 use Rattle.forward_links.specs.Lists.{Use, rows_of, versions_of}
-use Rattle.lineage_store.specs.root_laws.Naming.{uses_of}
+use Rattle.plain_rows.specs.root_laws.Naming.{uses_of}
 use Rattle.lineage_index.specs.Growth.{use_of, uses_at}
 
 versions_marked : (passes : Row → Bool) (n : ℕ) (rows : List Row)

@@ -51,39 +51,31 @@ use Rattle.lc_base.specs.declared.limits.TheConstants.{MAX_DEPS}
 use Rattle.lc_base.specs.declared.row.Row.{Row}
 use Rattle.lc_base.specs.declared.row.Dep.{Dep}
 use Rattle.lc_base.specs.History.{HasLawfulDeps, StandsBefore, newest, up_to}
-use Rattle.prov_entry.specs.declared.entry.Leaf.{Leaf}
-use Rattle.prov_entry.specs.declared.entry.Body.{Body}
-use Rattle.prov_entry.specs.declared.entry.BodyDep.{BodyDep}
-use Rattle.prov_entry.specs.Spelling.{body_fields}
-use Rattle.lineage_store.specs.root_laws.Naming.{closed_uses, uses_of, digest_of_uses, named_before, body_among, body_of, with_digest}
-use Rattle.lineage_store.specs.root_laws.Root.{is_among, keys_of, sentinel}
-use Rattle.lineage_store.specs.root_laws.GrowthLaws.{AreFrom}
-use Rattle.lineage_store.proofs.root_laws.Lists.{
-  all_contained,
-  all_weaker,
-  all_front,
-  all_back,
-  all_both,
-  contained,
-  map_on,
-  option_cases,
-  not_both,
-}
-use Rattle.lineage_store.proofs.root_laws.Keys.{among_is_some}
-use Rattle.lineage_store.proofs.root_laws.Growing.{up_to_now, earlier_versions_stay}
+use Rattle.entry_views.specs.prov_entry.declared.entry.Leaf.{Leaf}
+use Rattle.entry_views.specs.prov_entry.declared.entry.Body.{Body}
+use Rattle.entry_views.specs.prov_entry.declared.entry.BodyDep.{BodyDep}
+use Rattle.entry_views.specs.prov_entry.Spelling.{body_fields}
+use Rattle.plain_rows.specs.root_laws.Naming.{closed_uses, uses_of, digest_of_uses, named_before}
+use Rattle.plain_rows.specs.root_laws.Naming.{body_among, body_of, with_digest}
+use Rattle.plain_rows.specs.root_laws.Root.{is_among, keys_of, sentinel}
+use Rattle.plain_rows.specs.root_laws.GrowthLaws.{AreFrom}
+use Rattle.plain_rows.proofs.root_laws.Lists.{all_contained, all_weaker, all_front, all_back}
+use Rattle.plain_rows.proofs.root_laws.Lists.{all_both, contained, map_on, option_cases, not_both}
+use Rattle.plain_rows.proofs.root_laws.Keys.{among_is_some}
+use Rattle.plain_rows.proofs.root_laws.Growing.{up_to_now, earlier_versions_stay}
 use Rattle.state_tree.specs.Leaves.{index_of}
 use Rattle.forward_links.specs.declared.kept_list.KeptList.{KeptList}
 use Rattle.forward_links.specs.Lists.{Use, versions_of}
-use Rattle.lineage_store.specs.entry_store.declared.entry.EntryId.{EntryId}
-use Rattle.lineage_store.specs.entry_store.declared.entry.Hop.{Hop}
-use Rattle.lineage_store.specs.entry_store.Entries.{Entry as StoreEntry}
-use Rattle.lineage_store.specs.declared.growing.NewVersion.{NewVersion}
-use Rattle.lineage_store.specs.Versions.{newest_entry}
-use Rattle.lineage_store.specs.Entries.{entries_of}
-use Rattle.lineage_store.proofs.Entries.{entries_stay}
-use Rattle.lineage_store.specs.Growing.{IsNextVersion}
-use Rattle.lineage_store.proofs.Versions.{split_pairs}
-use Rattle.lineage_store.proofs.OtherKeys.{versions_stay}
+use Rattle.skip_list.specs.entry_store.declared.entry.EntryId.{EntryId}
+use Rattle.skip_list.specs.entry_store.declared.entry.Hop.{Hop}
+use Rattle.skip_list.specs.entry_store.Entries.{Entry as StoreEntry}
+use Rattle.lineage_index.specs.declared.growing.NewVersion.{NewVersion}
+use Rattle.lineage_index.specs.Versions.{newest_entry}
+use Rattle.lineage_index.specs.Entries.{entries_of}
+use Rattle.lineage_index.proofs.StoreEntries.{entries_stay}
+use Rattle.lineage_index.specs.Growing.{IsNextVersion}
+use Rattle.lineage_index.proofs.Versions.{split_pairs}
+use Rattle.lineage_index.proofs.OtherKeys.{versions_stay}
 use Rattle.lineage_index.specs.Growth.{Grows, IsOnNewest, Entry, entry_of, leaf_with, open_uses}
 use Rattle.lineage_index.specs.Heads.{AreLists, leaves_with}
 use Rattle.lineage_index.specs.NewEntries.{

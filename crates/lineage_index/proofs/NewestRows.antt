@@ -4,16 +4,16 @@ use Rattle.std.specs.Prelude.{slice_get}
 use Rattle.std.specs.Option.{option_map}
 use Rattle.std.proofs.lemmas.Option.{get_or_from_slice_get, none-some, same_Some}
 use Rattle.lc_base.specs.declared.row.Row.{Row}
-use Rattle.lineage_store.specs.skip_links.Versions.{newest_index}
-use Rattle.prov_entry.specs.declared.entry.Leaf.{Leaf}
-use Rattle.lineage_store.specs.root_laws.Root.{is_among, keys_of}
-use Rattle.lineage_store.proofs.skip_links.Threads.{newest_below}
-use Rattle.rows_index.specs.Places.{IsRowAt}
-use Rattle.lineage_store.specs.entry_store.declared.entry.EntryId.{EntryId}
-use Rattle.lineage_store.specs.entry_store.Entries.{Entry as StoreEntry}
-use Rattle.lineage_store.specs.Versions.{newest_entry}
-use Rattle.lineage_store.specs.Entries.{IsNewestOf}
-use Rattle.lineage_store.proofs.Versions.{newest_is_index}
+use Rattle.skip_links.specs.Versions.{newest_index}
+use Rattle.entry_views.specs.prov_entry.declared.entry.Leaf.{Leaf}
+use Rattle.plain_rows.specs.root_laws.Root.{is_among, keys_of}
+use Rattle.skip_links.proofs.Threads.{newest_below}
+use Rattle.plain_rows.specs.Places.{IsRowAt}
+use Rattle.skip_list.specs.entry_store.declared.entry.EntryId.{EntryId}
+use Rattle.skip_list.specs.entry_store.Entries.{Entry as StoreEntry}
+use Rattle.lineage_index.specs.Versions.{newest_entry}
+use Rattle.lineage_index.specs.Entries.{IsNewestOf}
+use Rattle.lineage_index.proofs.Versions.{newest_is_index}
 use Rattle.lineage_index.specs.Heads.{newest_at}
 use Rattle.lineage_index.specs.Settling.{IsStoreOf}
 use Rattle.lineage_index.specs.NewestRows.{AreNewest}

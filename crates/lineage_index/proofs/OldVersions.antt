@@ -5,12 +5,13 @@ use Rattle.lc_base.specs.declared.digest.Digest.{Digest}
 use Rattle.lc_base.specs.declared.row.Row.{Row}
 use Rattle.lc_base.specs.declared.row.Dep.{Dep}
 use Rattle.lc_base.specs.History.{newest}
-use Rattle.prov_entry.specs.declared.entry.BodyDep.{BodyDep}
-use Rattle.lineage_store.specs.root_laws.Naming.{named_before, digest_among, with_digest, header_digest}
-use Rattle.lineage_store.specs.root_laws.NamingLaws.{digest_of_row}
-use Rattle.lineage_store.specs.root_laws.Root.{block_of}
-use Rattle.lineage_store.proofs.root_laws.Lists.{all_contained}
-use Rattle.lineage_store.proofs.root_laws.Headers.{row_is_named, newest_has, newest_is_key}
+use Rattle.entry_views.specs.prov_entry.declared.entry.BodyDep.{BodyDep}
+use Rattle.plain_rows.specs.root_laws.Naming.{named_before, digest_among, with_digest}
+use Rattle.plain_rows.specs.root_laws.Naming.{header_digest}
+use Rattle.plain_rows.specs.root_laws.NamingLaws.{digest_of_row}
+use Rattle.plain_rows.specs.root_laws.Root.{block_of}
+use Rattle.plain_rows.proofs.root_laws.Lists.{all_contained}
+use Rattle.plain_rows.proofs.root_laws.Headers.{row_is_named, newest_has, newest_is_key}
 use Rattle.lineage_index.specs.Growth.{Grows, IsOnNewest, entry_of}
 use Rattle.lineage_index.proofs.Blocks.{rows_before}
 

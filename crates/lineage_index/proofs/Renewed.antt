@@ -8,18 +8,18 @@ use Rattle.lc_base.specs.declared.digest.Digest.{Digest}
 use Rattle.lc_base.specs.declared.row.Row.{Row}
 use Rattle.lc_base.specs.declared.row.Dep.{Dep}
 use Rattle.lc_base.specs.History.{newest, uses}
-use Rattle.prov_entry.specs.ForwardLists.{uses_digest}
-use Rattle.lineage_store.specs.root_laws.Naming.{uses_of, digest_of_uses, header_digest, header_of}
-use Rattle.lineage_store.specs.root_laws.NamingLaws.{digest_of_row}
-use Rattle.lineage_store.specs.root_laws.Root.{keys_of, block_of}
-use Rattle.lineage_store.proofs.root_laws.Lists.{all_contained}
-use Rattle.lineage_store.proofs.root_laws.Headers.{row_is_named, newest_has, newest_is_key}
+use Rattle.entry_views.specs.prov_entry.ForwardLists.{uses_digest}
+use Rattle.plain_rows.specs.root_laws.Naming.{uses_of, digest_of_uses, header_digest, header_of}
+use Rattle.plain_rows.specs.root_laws.NamingLaws.{digest_of_row}
+use Rattle.plain_rows.specs.root_laws.Root.{keys_of, block_of}
+use Rattle.plain_rows.proofs.root_laws.Lists.{all_contained}
+use Rattle.plain_rows.proofs.root_laws.Headers.{row_is_named, newest_has, newest_is_key}
 use Rattle.forward_links.specs.declared.kept_list.KeptList.{KeptList}
 use Rattle.forward_links.specs.declared.open_list.OpenList.{OpenList}
 use Rattle.forward_links.specs.Lists.{Use, kept_of, open_of, versions_of}
-use Rattle.lineage_store.specs.entry_store.declared.entry.Facts.{Facts}
-use Rattle.lineage_store.specs.entry_store.Entries.{Entry as StoreEntry, facts_of}
-use Rattle.lineage_store.proofs.Entries.{row_facts, as_many}
+use Rattle.skip_list.specs.entry_store.declared.entry.Facts.{Facts}
+use Rattle.skip_list.specs.entry_store.Entries.{Entry as StoreEntry, facts_of}
+use Rattle.lineage_index.proofs.StoreEntries.{row_facts, as_many}
 use Rattle.lineage_index.specs.Growth.{Entry, entry_of}
 use Rattle.lineage_index.specs.Heads.{newest_at, open_list}
 use Rattle.lineage_index.specs.Settling.{IsStoreOf}

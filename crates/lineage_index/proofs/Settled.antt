@@ -7,13 +7,13 @@ use Rattle.std.proofs.lemmas.List.{append_assoc}
 use Rattle.std.proofs.lemmas.Bool.{cases_Bool}
 use Rattle.lc_base.specs.declared.row.Row.{Row}
 use Rattle.lc_base.specs.History.{newest}
-use Rattle.lineage_store.specs.skip_links.Versions.{newest_index}
-use Rattle.lineage_store.proofs.skip_links.Threads.{newest_more, newest_found, newest_below}
-use Rattle.prov_entry.specs.declared.entry.Leaf.{Leaf}
-use Rattle.lineage_store.specs.root_laws.Root.{is_among, with_key, keys_of}
-use Rattle.lineage_store.proofs.root_laws.Lists.{not_both}
-use Rattle.lineage_store.proofs.root_laws.Keys.{same_key, among_is_some, keys_append, keys_short}
-use Rattle.lineage_store.proofs.root_laws.Growing.{newest_append}
+use Rattle.skip_links.specs.Versions.{newest_index}
+use Rattle.skip_links.proofs.Threads.{newest_more, newest_found, newest_below}
+use Rattle.entry_views.specs.prov_entry.declared.entry.Leaf.{Leaf}
+use Rattle.plain_rows.specs.root_laws.Root.{is_among, with_key, keys_of}
+use Rattle.plain_rows.proofs.root_laws.Lists.{not_both}
+use Rattle.plain_rows.proofs.root_laws.Keys.{same_key, among_is_some, keys_append, keys_short}
+use Rattle.plain_rows.proofs.root_laws.Growing.{newest_append}
 use Rattle.forward_links.specs.declared.kept_list.KeptList.{KeptList}
 use Rattle.forward_links.specs.Lists.{Use, kept_of}
 use Rattle.lineage_index.specs.Growth.{changed_at}

@@ -4,9 +4,9 @@ use Rattle.std.proofs.Common.{subst}
 use Rattle.std.specs.List.{AllByRecursion}
 use Rattle.std.proofs.lemmas.List.{append_assoc, take-append-drop}
 use Rattle.lc_base.specs.declared.row.Row.{Row}
-use Rattle.prov_entry.specs.declared.entry.Leaf.{Leaf}
+use Rattle.entry_views.specs.prov_entry.declared.entry.Leaf.{Leaf}
 use Rattle.forward_links.specs.declared.kept_list.KeptList.{KeptList}
-use Rattle.lineage_store.proofs.root_laws.Lists.{all_front}
+use Rattle.plain_rows.proofs.root_laws.Lists.{all_front}
 use Rattle.lineage_index.specs.Growth.{open_uses}
 use Rattle.lineage_index.specs.Heads.{AreHeads, with_version}
 use Rattle.lineage_index.specs.Settling.{AreSettling, settled_states}

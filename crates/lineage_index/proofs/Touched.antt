@@ -9,10 +9,10 @@ use Rattle.std.proofs.lemmas.List.{append-nil, append_assoc, map-append, take_mo
 use Rattle.std.proofs.lemmas.List.Elements.{filter_map-append}
 use Rattle.std.proofs.lemmas.Grind.{flat_map-append}
 use Rattle.lc_base.specs.declared.row.Row.{Row}
-use Rattle.prov_entry.specs.declared.entry.Leaf.{Leaf}
-use Rattle.lineage_store.specs.root_laws.Root.{is_among, keys_of, with_key}
-use Rattle.lineage_store.proofs.root_laws.Lists.{all_weaker, not_both}
-use Rattle.lineage_store.proofs.root_laws.Keys.{key_is_key, keys_append}
+use Rattle.entry_views.specs.prov_entry.declared.entry.Leaf.{Leaf}
+use Rattle.plain_rows.specs.root_laws.Root.{is_among, keys_of, with_key}
+use Rattle.plain_rows.proofs.root_laws.Lists.{all_weaker, not_both}
+use Rattle.plain_rows.proofs.root_laws.Keys.{key_is_key, keys_append}
 use Rattle.state_tree.specs.Leaves.{index_of, is_this}
 use Rattle.lineage_index.specs.Growth.{Entry, deps_touched, keys_of_deps}
 use Rattle.lineage_index.specs.Heads.{leaves_with}

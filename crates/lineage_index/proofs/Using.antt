@@ -10,9 +10,9 @@ use Rattle.lc_base.specs.declared.row.Row.{Row}
 use Rattle.lc_base.specs.declared.row.Dep.{Dep}
 use Rattle.lc_base.specs.History.{newest, depends_on}
 use Rattle.forward_links.specs.Lists.{Use}
-use Rattle.rows_index.proofs.Marked.{marked_more}
-use Rattle.lineage_store.proofs.root_laws.Lists.{option_cases, or_false}
-use Rattle.lineage_store.proofs.root_laws.Keys.{same_key}
+use Rattle.plain_rows.proofs.Marked.{marked_more}
+use Rattle.plain_rows.proofs.root_laws.Lists.{option_cases, or_false}
+use Rattle.plain_rows.proofs.root_laws.Keys.{same_key}
 use Rattle.lineage_index.specs.Growth.{
   IsOnNewest,
   open_uses,

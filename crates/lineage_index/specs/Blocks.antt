@@ -2,10 +2,10 @@
 use Rattle.std.specs.Prelude.{ℕ, ◌<◌, List}
 use Rattle.std.specs.List.{All, concat}
 use Rattle.lc_base.specs.declared.row.Row.{Row}
-use Rattle.prov_entry.specs.declared.entry.Leaf.{Leaf}
-use Rattle.prov_entry.specs.Spelling.{body_fields}
-use Rattle.lineage_store.specs.root_laws.Naming.{body_of}
-use Rattle.lineage_store.specs.entry_store.Entries.{Entry as StoreEntry}
+use Rattle.entry_views.specs.prov_entry.declared.entry.Leaf.{Leaf}
+use Rattle.entry_views.specs.prov_entry.Spelling.{body_fields}
+use Rattle.plain_rows.specs.root_laws.Naming.{body_of}
+use Rattle.skip_list.specs.entry_store.Entries.{Entry as StoreEntry}
 use Rattle.forward_links.specs.declared.kept_list.KeptList.{KeptList}
 use Rattle.lineage_index.specs.Heads.{AreHeads, states_of}
 use Rattle.lineage_index.specs.Settling.{IsStoreOf}

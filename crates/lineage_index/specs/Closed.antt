@@ -5,8 +5,8 @@ use Rattle.std.specs.Prelude.{Some, true, slice_get, slice_set}
 use Rattle.lc_base.specs.declared.row.Row.{Row}
 use Rattle.lc_base.specs.History.{newest}
 use Rattle.forward_links.specs.Lists.{rows_of}
-use Rattle.rows_index.specs.Users.{users}
-use Rattle.lineage_store.specs.root_laws.Root.{is_among}
+use Rattle.plain_rows.specs.Users.{users}
+use Rattle.plain_rows.specs.root_laws.Root.{is_among}
 use Rattle.lineage_index.specs.Heads.{KeyStates, newest_at}
 
 -- What the closed list of a row has, where `index` is that of the row among the rows `first`: the

@@ -9,11 +9,11 @@ use Rattle.lc_base.specs.declared.digest.Digest.{Digest}
 use Rattle.lc_base.specs.declared.row.Row.{Row}
 use Rattle.lc_base.specs.declared.row.Dep.{Dep}
 use Rattle.lc_base.specs.History.{IsLawful, depends_on, newest, uses, version_of}
-use Rattle.prov_entry.specs.declared.entry.Leaf.{Leaf}
-use Rattle.rows_index.specs.Places.{marks_of}
+use Rattle.entry_views.specs.prov_entry.declared.entry.Leaf.{Leaf}
+use Rattle.plain_rows.specs.Places.{marks_of}
 use Rattle.forward_links.specs.Lists.{Use}
-use Rattle.lineage_store.specs.root_laws.Naming.{digest_of_uses, header_digest}
-use Rattle.lineage_store.specs.root_laws.Root.{block_of, is_among, next_key}
+use Rattle.plain_rows.specs.root_laws.Naming.{digest_of_uses, header_digest}
+use Rattle.plain_rows.specs.root_laws.Root.{block_of, is_among, next_key}
 
 -- ---- what holds of a block
 

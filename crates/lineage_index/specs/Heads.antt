@@ -5,10 +5,10 @@ use Rattle.std.specs.Prelude.{if◌then◌else◌, Option, Some, None}
 use Rattle.std.specs.List.{AllPairs}
 use Rattle.lc_base.specs.declared.row.Row.{Row}
 use Rattle.lc_base.specs.History.{newest}
-use Rattle.lineage_store.specs.skip_links.Versions.{newest_index}
-use Rattle.prov_entry.specs.declared.entry.Leaf.{Leaf}
-use Rattle.lineage_store.specs.root_laws.Naming.{digest_of_uses}
-use Rattle.lineage_store.specs.root_laws.Root.{sentinel, is_among, keys_of}
+use Rattle.skip_links.specs.Versions.{newest_index}
+use Rattle.entry_views.specs.prov_entry.declared.entry.Leaf.{Leaf}
+use Rattle.plain_rows.specs.root_laws.Naming.{digest_of_uses}
+use Rattle.plain_rows.specs.root_laws.Root.{sentinel, is_among, keys_of}
 use Rattle.forward_links.specs.declared.kept_list.KeptList.{KeptList}
 use Rattle.forward_links.specs.Lists.{Use, kept_of}
 use Rattle.lineage_index.specs.Growth.{Entry, leaf_with, entry_of, changed_at, uses_at}

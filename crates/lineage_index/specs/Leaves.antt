@@ -2,9 +2,9 @@
 use Rattle.std.specs.Prelude.{◌≡◌, ℕ, ◌-◌, ◌<◌, ◌≤◌, List, [], length, map, slice_index_or}
 use Rattle.std.specs.List.{filter_map, Contains}
 use Rattle.lc_base.specs.declared.row.Row.{Row}
-use Rattle.prov_entry.specs.declared.entry.Leaf.{Leaf}
-use Rattle.lineage_store.specs.entry_store.Entries.{Entry as StoreEntry}
-use Rattle.lineage_store.specs.root_laws.Root.{keys_of}
+use Rattle.entry_views.specs.prov_entry.declared.entry.Leaf.{Leaf}
+use Rattle.skip_list.specs.entry_store.Entries.{Entry as StoreEntry}
+use Rattle.plain_rows.specs.root_laws.Root.{keys_of}
 use Rattle.state_tree.specs.declared.states.LeafState.{LeafState}
 use Rattle.state_tree.specs.Leaves.{index_of, state_of_leaf}
 use Rattle.forward_links.specs.declared.kept_list.KeptList.{KeptList}

@@ -1,3 +1,9 @@
+pub mod Versions
+pub mod Entries
+pub mod Growing
+pub mod ReadBack
+pub mod Headers
+pub mod OnPath
 pub mod Growth
 pub mod Heads
 pub mod Settling
@@ -7,8 +13,9 @@ pub mod NewEntries
 pub mod Blocks
 pub mod Index
 pub mod NewestRows
-pub use Rattle.lineage_store.specs.entry_store as entry_store
+pub use Rattle.skip_list.specs.entry_store as entry_store
 pub use Rattle.forward_links.specs as forward_links
-pub use Rattle.lineage_store.specs as lineage_store
-pub use Rattle.prov_entry.specs as prov_entry
+pub use Rattle.plain_rows.specs as plain_rows
+pub use Rattle.entry_views.specs.prov_entry as prov_entry
+pub use Rattle.plain_rows.specs.root_laws as root_laws
 pub use Rattle.state_tree.specs as state_tree

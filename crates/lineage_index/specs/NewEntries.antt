@@ -5,18 +5,18 @@ use Rattle.std.specs.List.{concat}
 use Rattle.lc_base.specs.declared.digest.Digest.{Digest}
 use Rattle.lc_base.specs.declared.row.Row.{Row}
 use Rattle.lc_base.specs.declared.row.Dep.{Dep}
-use Rattle.prov_entry.specs.declared.entry.Leaf.{Leaf}
-use Rattle.prov_entry.specs.declared.entry.BodyDep.{BodyDep}
-use Rattle.prov_entry.specs.declared.entry.Body.{Body}
-use Rattle.prov_entry.specs.Spelling.{body_fields}
-use Rattle.lineage_store.specs.root_laws.Naming.{digest_of_uses}
-use Rattle.lineage_store.specs.root_laws.Root.{is_among, keys_of, sentinel}
+use Rattle.entry_views.specs.prov_entry.declared.entry.Leaf.{Leaf}
+use Rattle.entry_views.specs.prov_entry.declared.entry.BodyDep.{BodyDep}
+use Rattle.entry_views.specs.prov_entry.declared.entry.Body.{Body}
+use Rattle.entry_views.specs.prov_entry.Spelling.{body_fields}
+use Rattle.plain_rows.specs.root_laws.Naming.{digest_of_uses}
+use Rattle.plain_rows.specs.root_laws.Root.{is_among, keys_of, sentinel}
 use Rattle.state_tree.specs.Leaves.{index_of}
 use Rattle.forward_links.specs.declared.kept_list.KeptList.{KeptList}
 use Rattle.forward_links.specs.Lists.{Use}
-use Rattle.lineage_store.specs.entry_store.Entries.{Entry as StoreEntry}
-use Rattle.lineage_store.specs.Entries.{entries_of}
-use Rattle.lineage_store.specs.declared.growing.NewVersion.{NewVersion}
+use Rattle.skip_list.specs.entry_store.Entries.{Entry as StoreEntry}
+use Rattle.lineage_index.specs.Entries.{entries_of}
+use Rattle.lineage_index.specs.declared.growing.NewVersion.{NewVersion}
 use Rattle.lineage_index.specs.Growth.{Grows, Entry, entry_of, open_uses}
 use Rattle.lineage_index.specs.Heads.{KeyStates, AreHeads, newest_at}
 

@@ -1,8 +1,8 @@
 -- The indexes of newest rows are kept in the order of the leaves of their keys.
 use Rattle.std.specs.Prelude.{◌≡◌, ℕ, List, map}
 use Rattle.lc_base.specs.declared.row.Row.{Row}
-use Rattle.prov_entry.specs.declared.entry.Leaf.{Leaf}
-use Rattle.lineage_store.specs.root_laws.Root.{keys_of}
+use Rattle.entry_views.specs.prov_entry.declared.entry.Leaf.{Leaf}
+use Rattle.plain_rows.specs.root_laws.Root.{keys_of}
 use Rattle.lineage_index.specs.Growth.{Entry}
 use Rattle.lineage_index.specs.Heads.{leaves_with, newest_at}
 

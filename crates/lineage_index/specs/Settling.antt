@@ -3,10 +3,10 @@
 use Rattle.std.specs.Prelude.{◌≡◌, ℕ, if◌then◌else◌, List, ◌++◌}
 use Rattle.lc_base.specs.declared.row.Row.{Row}
 use Rattle.lc_base.specs.History.{IsLawful}
-use Rattle.prov_entry.specs.declared.entry.Leaf.{Leaf}
-use Rattle.lineage_store.specs.entry_store.Entries.{Entry as StoreEntry}
-use Rattle.lineage_store.specs.Entries.{entries_of}
-use Rattle.lineage_store.specs.root_laws.Root.{is_among, keys_of}
+use Rattle.entry_views.specs.prov_entry.declared.entry.Leaf.{Leaf}
+use Rattle.skip_list.specs.entry_store.Entries.{Entry as StoreEntry}
+use Rattle.lineage_index.specs.Entries.{entries_of}
+use Rattle.plain_rows.specs.root_laws.Root.{is_among, keys_of}
 use Rattle.forward_links.specs.declared.kept_list.KeptList.{KeptList}
 use Rattle.forward_links.specs.Lists.{Use}
 use Rattle.lineage_index.specs.Growth.{Grows, Entry, entry_of, open_uses, list_after_rows}

@@ -11,8 +11,8 @@ use crate::settling::settle_rows;
 use crate::spelling::spell_rows;
 use forward_links::OpenLists;
 use lc_base::{Memory, Row, TextList};
-use lineage_store::Store;
-use rows_index::IndexList;
+use plain_rows::IndexList;
+use skip_list::Store;
 use state_tree::Tree;
 use std::alloc::Global;
 

@@ -31,7 +31,7 @@ ghost use Rattle.lineage_index.specs.{
 
 use forward_links::OpenLists;
 use lc_base::{Key, Memory};
-use rows_index::IndexList;
+use plain_rows::IndexList;
 use state_tree::Tree;
 
 /// The index of a key among the keys of the leaves, from 0: one below that of its leaf, as the

@@ -19,13 +19,17 @@ ghost use Rattle.std.specs.Prelude.{
   OnOk,
 };
 ghost use Rattle.lc_base.specs.{declared.row.Row.{Row}, History.{latest, newest, uses}};
-ghost use Rattle.lineage_store.specs.skip_links.Versions.{newest_index};
-ghost use Rattle.lineage_store.specs.skip_links.Paths.{path};
-ghost use Rattle.rows_index.specs.{Places.{IsRowAt}, Users.{AreVersionsAt, users}};
-ghost use Rattle.lineage_store.specs.root_laws.{Naming.{header_of}, Root.{leaves}};
-ghost use Rattle.lineage_store.specs.entry_store.Steps.{raised_count};
-ghost use Rattle.lineage_store.specs.{Entries.{entries_of, IsNewestOf}, OnPath.{AreEntriesIn}};
+ghost use Rattle.skip_links.specs.{Versions.{newest_index}, Paths.{path}};
+ghost use Rattle.plain_rows.specs.{
+  Places.{IsRowAt},
+  Users.{AreVersionsAt, users},
+  root_laws.Naming.{header_of},
+  root_laws.Root.{leaves},
+};
+ghost use Rattle.skip_list.specs.entry_store.Steps.{raised_count};
 ghost use Rattle.lineage_index.specs.{
+  Entries.{entries_of, IsNewestOf},
+  OnPath.{AreEntriesIn},
   Growth.{Grows},
   Blocks.{IsKeptIndex, bytes_of_body},
   Closed.{IsOpenListOf, closed_users},
@@ -33,17 +37,17 @@ ghost use Rattle.lineage_index.specs.{
 };
 
 use crate::advancing::advance;
+use crate::counter::Steps;
+use crate::headers::entry_header;
 use crate::heads::index_of;
 use crate::leaves::newest_at;
+use crate::lookups::{entries_on_path, latest_entry};
 use crate::newest_row::{newest_entry_of, newest_row_of};
+use entry_views::Header;
 use forward_links::OpenLists;
-use lc_base::{Key, Memory, Row, TextList};
-use lineage_store::{
-    EntryId, EntryList, Steps, Store, entries_on_path, entry_header, latest_entry,
-};
-use prov_entry::Header;
-use resources::Resources;
-use rows_index::IndexList;
+use lc_base::{Key, Memory, Resources, Row, TextList};
+use plain_rows::IndexList;
+use skip_list::{EntryId, EntryList, Store};
 use state_tree::Tree;
 
 /// The leaves, open lists and newest rows of keys, and the entries of rows. It does not keep the rows.

@@ -6,7 +6,7 @@ ghost use Rattle.std.specs.{
   List.{All},
 };
 ghost use Rattle.lc_base.specs.declared.row.Row.{Row};
-ghost use Rattle.lineage_store.specs.root_laws.Root.{keys_of};
+ghost use Rattle.plain_rows.specs.root_laws.Root.{keys_of};
 ghost use Rattle.lineage_index.specs.{
   Growth.{Entry, deps_touched, keys_touched},
   Leaves.{AreBesideLeaves, IsLeafIndex, leaf_indexes, state_of},
@@ -16,7 +16,7 @@ ghost use Rattle.lineage_index.specs.{
 use crate::indexes::touched_indexes;
 use forward_links::OpenLists;
 use lc_base::{Memory, Row};
-use lineage_store::{EntryId, Store};
+use skip_list::{EntryId, Store};
 use state_tree::{LeafState, Tree};
 use std::alloc::Global;
 

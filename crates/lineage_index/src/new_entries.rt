@@ -4,17 +4,19 @@
 ghost use Rattle.std.specs.Prelude.{◌≡◌, ◌++◌, ◌∷◌, [], ℕ, List, map, OnOk};
 ghost use Rattle.lc_base.specs.declared.row.Row.{Row};
 ghost use Rattle.forward_links.specs.Lists.{Use, open_of, versions_of};
-ghost use Rattle.lineage_store.specs.Entries.{entries_of};
 ghost use Rattle.lineage_index.specs.{
+  Entries.{entries_of},
   Heads.{AreLists},
   NewEntries.{AreUsing, IsNextRow, IsVersionOf, bytes_in, list_if_among},
 };
 
+use crate::counter::Steps;
+use crate::growing::{NewVersion, push_version};
 use crate::heads::index_of;
 use crate::newest_row::newest_entry_of;
 use forward_links::{OpenList, OpenLists};
 use lc_base::{Bytes, Key, Memory, Row};
-use lineage_store::{NewVersion, Steps, Store, push_version};
+use skip_list::Store;
 use state_tree::Tree;
 use std::alloc::Global;
 

@@ -3,14 +3,13 @@
 
 ghost use Rattle.std.specs.Prelude.{◌≡◌, List};
 ghost use Rattle.lc_base.specs.declared.row.Row.{Row};
-ghost use Rattle.lineage_store.specs.skip_links.Versions.{newest_index};
-ghost use Rattle.lineage_store.specs.Versions.{newest_entry};
-ghost use Rattle.lineage_index.specs.NewestRows.{AreNewest};
+ghost use Rattle.skip_links.specs.Versions.{newest_index};
+ghost use Rattle.lineage_index.specs.{Versions.{newest_entry}, NewestRows.{AreNewest}};
 
 use crate::heads::index_of;
 use crate::leaves::newest_at;
 use lc_base::Key;
-use lineage_store::EntryId;
+use skip_list::EntryId;
 use state_tree::Tree;
 
 /// The index of the newest row of a key; `None` if the key has none.

@@ -8,7 +8,7 @@ ghost use Rattle.lineage_index.specs.Settling.{AreSettling};
 use crate::heads::set_newest;
 use forward_links::OpenLists;
 use lc_base::{Memory, Row};
-use rows_index::IndexList;
+use plain_rows::IndexList;
 use state_tree::Tree;
 
 /// Makes these rows the newest versions of their keys, one after another, and closes the lists of

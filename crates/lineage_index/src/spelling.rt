@@ -28,9 +28,9 @@ ghost use Rattle.lineage_index.specs.{
 };
 
 use crate::heads::index_of;
+use entry_views::{Body, BodyDep, BodyDepList, write_body};
 use forward_links::OpenLists;
 use lc_base::{Bytes, Dep, Digest, Duplicate, Memory, Row, TextList};
-use prov_entry::{Body, BodyDep, BodyDepList, write_body};
 use state_tree::Tree;
 use std::alloc::Global;
 

@@ -10,9 +10,9 @@ use Rattle.std.proofs.lemmas.List.FromFn.{length-range_with_len, get_or-range_wi
 use Rattle.std.proofs.lemmas.List.FromFn.{length-map-range_with_len, get_or-map-range_with_len}
 use Rattle.lc_base.specs.declared.row.Row.{Row}
 use Rattle.lineage_index.specs.prov_entry.declared.entry.Leaf.{Leaf}
-use Rattle.root_laws.specs.Root.{is_among, keys_of}
-use Rattle.root_laws.proofs.Keys.{key_is_key}
-use Rattle.root_laws.proofs.Lists.{all_weaker}
+use Rattle.lineage_index.specs.root_laws.Root.{is_among, keys_of}
+use Rattle.lineage_index.proofs.root_laws.Keys.{key_is_key}
+use Rattle.lineage_index.proofs.root_laws.Lists.{all_weaker}
 use Rattle.lineage_index.specs.state_tree.Leaves.{with_states}
 use Rattle.lineage_index.specs.Growth.{Entry, entry_of, entry_after}
 use Rattle.lineage_index.specs.Heads.{leaves_with}

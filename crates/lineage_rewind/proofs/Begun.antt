@@ -10,10 +10,10 @@ use Rattle.std.proofs.lemmas.Option.{none-some, slice_get-map}
 use Rattle.lc_base.specs.declared.row.Row.{Row}
 use Rattle.lc_base.specs.History.{newest}
 use Rattle.lineage_index.specs.prov_entry.declared.entry.Leaf.{Leaf}
-use Rattle.root_laws.specs.Root.{is_among, sentinel, keys_of, with_key}
-use Rattle.root_laws.proofs.Growing.{newest_append}
-use Rattle.root_laws.proofs.Keys.{key_is_key, keys_append, keys_short, same_key}
-use Rattle.entry_store.specs.Entries.{Entry}
+use Rattle.lineage_index.specs.root_laws.Root.{is_among, sentinel, keys_of, with_key}
+use Rattle.lineage_index.proofs.root_laws.Growing.{newest_append}
+use Rattle.lineage_index.proofs.root_laws.Keys.{key_is_key, keys_append, keys_short, same_key}
+use Rattle.lineage_index.specs.entry_store.Entries.{Entry}
 use Rattle.lineage_index.specs.forward_links.declared.kept_list.KeptList.{KeptList}
 use Rattle.lineage_index.specs.forward_links.Lists.{Use, kept_of}
 use Rattle.lineage_index.specs.Growth.{changed_at, uses_at}

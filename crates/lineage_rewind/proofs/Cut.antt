@@ -12,12 +12,12 @@ use Rattle.std.proofs.lemmas.List.Elements.{All-weaker, filter-append, recursion
 use Rattle.std.proofs.lemmas.Option.{get_or_from_slice_get}
 use Rattle.lc_base.specs.declared.row.Row.{Row}
 use Rattle.lc_base.specs.History.{IsLawful, up_to}
-use Rattle.root_laws.proofs.Lists.{keep_all, keep_none, all_weaker}
-use Rattle.rows_index.proofs.Later.{blocks_rise}
-use Rattle.root_laws.proofs.Parts.{lawful_up_to}
-use Rattle.entry_store.specs.Entries.{Entry}
-use Rattle.lineage_index.specs.lineage_store.Entries.{entries_of}
-use Rattle.lineage_index.proofs.lineage_store.Entries.{earlier_entries}
+use Rattle.lineage_index.proofs.root_laws.Lists.{keep_all, keep_none, all_weaker}
+use Rattle.lineage_index.proofs.plain_rows.Later.{blocks_rise}
+use Rattle.lineage_index.proofs.root_laws.Parts.{lawful_up_to}
+use Rattle.lineage_index.specs.entry_store.Entries.{Entry}
+use Rattle.lineage_index.specs.Entries.{entries_of}
+use Rattle.lineage_index.proofs.StoreEntries.{earlier_entries}
 use Rattle.lineage_index.specs.Settling.{IsStoreOf}
 use Rattle.lineage_index.specs.declared.index.LineageIndex.{LineageIndex}
 use Rattle.lineage_index.specs.Index.{IsIndexOf}

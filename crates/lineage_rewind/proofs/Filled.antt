@@ -7,13 +7,13 @@ use Rattle.std.proofs.lemmas.Option.{same_Some, none-some, slice_get_within}
 use Rattle.lc_base.specs.declared.row.Row.{Row}
 use Rattle.lc_base.specs.declared.row.Dep.{Dep}
 use Rattle.lc_base.specs.History.{depends_on}
-use Rattle.root_laws.specs.Root.{keys_of}
-use Rattle.root_laws.proofs.Keys.{keys_short}
-use Rattle.rows_index.specs.First.{is_below, numbers_below}
-use Rattle.rows_index.specs.Users.{number_of, there, users, version_at}
-use Rattle.rows_index.proofs.First.{marked_first}
-use Rattle.rows_index.proofs.Using.{uses_at as versions_used}
-use Rattle.entry_store.specs.Entries.{Entry}
+use Rattle.lineage_index.specs.root_laws.Root.{keys_of}
+use Rattle.lineage_index.proofs.root_laws.Keys.{keys_short}
+use Rattle.lineage_index.specs.plain_rows.First.{is_below, numbers_below}
+use Rattle.lineage_index.specs.plain_rows.Users.{number_of, there, users, version_at}
+use Rattle.lineage_index.proofs.plain_rows.First.{marked_first}
+use Rattle.lineage_index.proofs.plain_rows.Using.{uses_at as versions_used}
+use Rattle.lineage_index.specs.entry_store.Entries.{Entry}
 use Rattle.lineage_index.specs.declared.index.LineageIndex.{LineageIndex}
 use Rattle.lineage_index.specs.forward_links.declared.kept_list.KeptList.{KeptList}
 use Rattle.lineage_index.specs.forward_links.Lists.{Use, kept_of, rows_of, versions_of, with_use_at}

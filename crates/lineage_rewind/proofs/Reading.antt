@@ -8,12 +8,12 @@ use Rattle.std.proofs.lemmas.Option.{none-some, same_Some}
 use Rattle.lc_base.specs.declared.row.Row.{Row}
 use Rattle.lc_base.specs.declared.row.Dep.{Dep}
 use Rattle.lc_base.specs.History.{version_of}
-use Rattle.root_laws.specs.Naming.{header_of}
-use Rattle.root_laws.proofs.Lists.{option_cases}
-use Rattle.rows_index.specs.Users.{version_at, there, AreVersionsAt}
-use Rattle.entry_store.specs.declared.entry.Facts.{Facts}
-use Rattle.entry_store.specs.Entries.{Entry, facts_of}
-use Rattle.lineage_index.proofs.lineage_store.Entries.{row_facts}
+use Rattle.lineage_index.specs.root_laws.Naming.{header_of}
+use Rattle.lineage_index.proofs.root_laws.Lists.{option_cases}
+use Rattle.lineage_index.specs.plain_rows.Users.{version_at, there, AreVersionsAt}
+use Rattle.lineage_index.specs.entry_store.declared.entry.Facts.{Facts}
+use Rattle.lineage_index.specs.entry_store.Entries.{Entry, facts_of}
+use Rattle.lineage_index.proofs.StoreEntries.{row_facts}
 use Rattle.lineage_index.specs.Settling.{IsStoreOf}
 
 -- The facts of an entry are those of its row's header.

@@ -3,9 +3,9 @@ use Rattle.std.specs.Prelude.{◌≡◌, ℕ, ◌<◌, ◌≤◌, List, [], leng
 use Rattle.std.specs.List.{All}
 use Rattle.lc_base.specs.declared.row.Row.{Row}
 use Rattle.lc_base.specs.History.{newest}
-use Rattle.rows_index.specs.Users.{AreVersionsAt}
-use Rattle.root_laws.specs.Root.{keys_of}
-use Rattle.entry_store.specs.Entries.{Entry}
+use Rattle.lineage_index.specs.plain_rows.Users.{AreVersionsAt}
+use Rattle.lineage_index.specs.root_laws.Root.{keys_of}
+use Rattle.lineage_index.specs.entry_store.Entries.{Entry}
 use Rattle.lineage_index.specs.declared.index.LineageIndex.{LineageIndex}
 use Rattle.lineage_index.specs.prov_entry.declared.entry.Leaf.{Leaf}
 use Rattle.lineage_index.specs.forward_links.declared.kept_list.KeptList.{KeptList}

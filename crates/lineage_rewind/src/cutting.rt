@@ -6,7 +6,7 @@ ghost use Rattle.lc_base.specs.declared.row.Row.{Row};
 ghost use Rattle.lineage_index.specs.Settling.{IsStoreOf};
 ghost use Rattle.lineage_rewind.specs.Front.{AreUpTo};
 
-use entry_store::{EntryId, Store};
+use lineage_index::{EntryId, Store};
 
 /// The number of the entries of rows of the blocks up to `at`: they are the first ones.
 pub(crate) fn count_up_to(store: &Store, at: u32) -> u32

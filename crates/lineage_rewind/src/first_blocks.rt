@@ -9,9 +9,8 @@ ghost use Rattle.lineage_rewind.specs.Front.{AreFirst};
 use crate::cutting::count_up_to;
 use crate::leaves::renew_all;
 use crate::settling::settle_entries;
-use entry_store::Store;
 use lc_base::Memory;
-use lineage_index::{LineageIndex, OpenLists};
+use lineage_index::{LineageIndex, OpenLists, Store};
 use std::alloc::Global;
 
 /// The index over the rows of these entries, made of the index over all rows. Its tree is made with

@@ -5,17 +5,16 @@ ghost use Rattle.std.specs.{
   List.{range_with_len},
 };
 ghost use Rattle.lc_base.specs.declared.row.Row.{Row};
-ghost use Rattle.root_laws.specs.Root.{keys_of};
 ghost use Rattle.lineage_index.specs.{
+  root_laws.Root.{keys_of},
   Growth.{Entry},
   Heads.{AreHeads, states_of},
   Settling.{AreRenewing},
   Leaves.{AreBesideLeaves, state_of},
 };
 
-use entry_store::Store;
 use lc_base::Memory;
-use lineage_index::{LeafState, OpenLists, Tree, leaf_state};
+use lineage_index::{LeafState, OpenLists, Store, Tree, leaf_state};
 use std::alloc::Global;
 
 /// The states of the leaves of all keys, in the order of the leaves.

@@ -10,4 +10,6 @@ mod settling;
 mod users;
 
 pub use first_blocks::front;
-pub use root_laws::check_row;
+pub use lineage_index::{
+    EntryId, EntryList, Facts, Header, LineageIndex, Steps, Store, Tree, check_row, root_digest,
+};

@@ -2,15 +2,17 @@
 
 ghost use Rattle.std.specs.Prelude.{◌≡◌, ℕ, List, map, OnOk, Some, slice_get, slice_set};
 ghost use Rattle.lc_base.specs.{declared.row.Dep.{Dep}, declared.row.Row.{Row}};
-ghost use Rattle.rows_index.specs.Users.{version_at};
-ghost use Rattle.lineage_index.specs.forward_links.Lists.{Use, kept_of};
-ghost use Rattle.lineage_index.specs.{Growth.{uses_at}, Settling.{IsStoreOf}};
+ghost use Rattle.lineage_index.specs.{
+  plain_rows.Users.{version_at},
+  forward_links.Lists.{Use, kept_of},
+  Growth.{uses_at},
+  Settling.{IsStoreOf},
+};
 ghost use Rattle.lineage_rewind.specs.Front.{AreFirst, CanFill, IsEmpty};
 
 use crate::users::indexes_below;
-use entry_store::{EntryId, Store};
 use lc_base::{Dep, Memory};
-use lineage_index::{LineageIndex, OpenLists};
+use lineage_index::{EntryId, LineageIndex, OpenLists, Store};
 use std::alloc::Global;
 
 /// The version that the row at an index is, by the row's entry.

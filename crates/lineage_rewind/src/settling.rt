@@ -7,10 +7,8 @@ ghost use Rattle.lc_base.specs.declared.row.Row.{Row};
 ghost use Rattle.lineage_rewind.specs.Front.{AreFilling, AreFirst};
 
 use crate::lists::fill_list;
-use entry_store::{EntryId, Store};
 use lc_base::Memory;
-use lineage_index::{LineageIndex, OpenLists, Tree, set_newest};
-use rows_index::IndexList;
+use lineage_index::{EntryId, IndexList, LineageIndex, OpenLists, Store, Tree, set_newest};
 use std::alloc::Global;
 
 /// Makes the rows of the entries the newest versions of their keys, one after another.

@@ -2,10 +2,10 @@
 //! of these rows.
 
 ghost use Rattle.std.specs.Prelude.{◌≡◌, ◌∷◌, ◌++◌, [], filter, OnOk, IfOk};
-ghost use Rattle.rows_index.specs.First.{is_below, numbers_below};
+ghost use Rattle.lineage_index.specs.plain_rows.First.{is_below, numbers_below};
 
 use lc_base::Memory;
-use rows_index::IndexList;
+use lineage_index::IndexList;
 use std::alloc::Global;
 
 /// Appends the index of a row if it is below `end`.

@@ -6,8 +6,8 @@ use Rattle.lc_base.specs.declared.answer.Kind.TheVariants.{Back}
 use Rattle.lc_base.specs.declared.row.Row.{Row}
 use Rattle.lc_base.specs.History.{latest, scan, answer_of}
 use Rattle.lc_base.specs.Parts.{question}
-use Rattle.lineage_host.specs.Bodiless.{IsButForBody}
-use Rattle.row_ancestors.specs.Ancestors.{deps_of}
+use Rattle.prov_query.specs.Bodiless.{IsButForBody}
+use Rattle.root_laws.specs.Ancestors.{deps_of}
 use Rattle.lineage_trace.specs.Finding.{derived_in, derived_of, deps_told, IsButForDeps}
 
 pub derived_told : (rows : List Row) (key : List ℕ) (at : ℕ)

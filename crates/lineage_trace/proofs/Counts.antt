@@ -8,7 +8,7 @@ use Rattle.lc_base.specs.declared.row.Dep.{Dep}
 use Rattle.lc_base.specs.declared.row.Row.{Row}
 use Rattle.skip_links.specs.Paths.{path}
 use Rattle.entry_store.specs.Steps.{raised_count}
-use Rattle.row_ancestors.specs.Steps.{steps_of}
+use Rattle.root_laws.specs.AncestorSteps.{steps_of}
 use Rattle.lineage_trace.specs.Counting.{RisesUpTo}
 
 -- ---- the steps of several lookups

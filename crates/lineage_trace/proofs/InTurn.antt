@@ -3,7 +3,7 @@ use Rattle.std.proofs.Common.{◌≡◌, ◌∙◌, ℕ, ◌+◌, ◌<◌, ◌�
 use Rattle.std.proofs.Common.{ap}
 use Rattle.std.proofs.lemmas.List.{at_drop_more, at_drop_all}
 use Rattle.lc_base.specs.declared.row.Dep.{Dep}
-use Rattle.row_ancestors.specs.Ancestors.{inserted, all_inserted, itself}
+use Rattle.root_laws.specs.Ancestors.{inserted, all_inserted, itself}
 
 pub one_inserted : (versions : List Dep) (i : ℕ) (version : Dep) (now new all : List Dep)
     → i < length versions → version ≡ get_or versions i version

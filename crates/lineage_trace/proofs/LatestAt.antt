@@ -9,10 +9,10 @@ use Rattle.std.proofs.lemmas.List.{get_or_default}
 use Rattle.lc_base.specs.declared.row.Dep.{Dep}
 use Rattle.lc_base.specs.declared.row.Row.{Row}
 use Rattle.lc_base.specs.History.{IsLawful, StandsBefore, is_version, latest}
-use Rattle.rows_index.proofs.LastPlace.{FailsFrom, last_passes}
+use Rattle.plain_rows.proofs.LastPlace.{FailsFrom, last_passes}
 use Rattle.root_laws.proofs.Keys.{same_key, key_is_key}
-use Rattle.row_ancestors.specs.Ancestors.{row_in, deps_of, deps_in}
-use Rattle.row_ancestors.proofs.Versions.{IsVersion, version_found}
+use Rattle.root_laws.specs.Ancestors.{row_in, deps_of, deps_in}
+use Rattle.root_laws.proofs.Versions.{IsVersion, version_found}
 
 -- A later row is of a later block or of another key.
 later_fails : (row later : Row) → StandsBefore row later

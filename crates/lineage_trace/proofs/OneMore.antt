@@ -8,9 +8,9 @@ use Rattle.lc_base.specs.declared.row.Row.{Row}
 use Rattle.lc_base.specs.History.{IsLawful, latest}
 use Rattle.skip_links.specs.Paths.{path}
 use Rattle.entry_store.specs.Steps.{raised_count}
-use Rattle.row_ancestors.specs.Ancestors.{itself, all_inserted, deps_of, deps_in, reached_from}
-use Rattle.row_ancestors.specs.Steps.{steps_of}
-use Rattle.row_ancestors.proofs.Enough.{AreWanted, are_wanted, next_wanted}
+use Rattle.root_laws.specs.Ancestors.{itself, all_inserted, deps_of, deps_in, reached_from}
+use Rattle.root_laws.specs.AncestorSteps.{steps_of}
+use Rattle.root_laws.proofs.Enough.{AreWanted, are_wanted, next_wanted}
 use Rattle.lineage_trace.specs.Counting.{RisesUpTo}
 use Rattle.lineage_trace.proofs.LatestAt.{deps_at}
 use Rattle.lineage_trace.proofs.Counts.{one_counted, part_counted}

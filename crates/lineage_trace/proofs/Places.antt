@@ -4,10 +4,10 @@ use Rattle.std.proofs.Common.{Ordering, Less, Equal, Greater, refl, ap, subst}
 use Rattle.std.specs.Ordering.{match_ordering}
 use Rattle.std.specs.BTreeSet.{insert_key}
 use Rattle.lc_base.specs.declared.row.Dep.{Dep}
-use Rattle.row_ancestors.specs.Ancestors.{comes_after, inserted, itself}
-use Rattle.row_ancestors.specs.Places.{Place, version_at}
-use Rattle.row_ancestors.proofs.Order.{not_after_itself}
-use Rattle.row_ancestors.proofs.Places.{Tells, place_cmp, tells}
+use Rattle.root_laws.specs.Ancestors.{comes_after, inserted, itself}
+use Rattle.root_laws.specs.Places.{Place, version_at}
+use Rattle.root_laws.proofs.Order.{not_after_itself}
+use Rattle.root_laws.proofs.Places.{Tells, place_cmp, tells}
 
 one_put : (first : Place) (places : List Place) (place : Place)
     → map version_at (insert_key place_cmp places place)

@@ -13,9 +13,9 @@ use Rattle.lc_base.specs.History.{latest, is_version}
 use Rattle.root_laws.proofs.Lists.{all_reverse, all_contained, found_has}
 use Rattle.skip_links.specs.Paths.{path}
 use Rattle.entry_store.specs.Steps.{raised_count}
-use Rattle.merkle_dag.specs.Ledger.{IsLedger, most_looked_at}
-use Rattle.row_ancestors.specs.Ancestors.{ancestors, trace_of, trace_at}
-use Rattle.row_ancestors.specs.Steps.{steps_of, ancestors_if_any, trace_steps, TraceStepsAreFew}
+use Rattle.prov_query.specs.merkle_dag.Ledger.{IsLedger, most_looked_at}
+use Rattle.root_laws.specs.Ancestors.{ancestors, trace_of, trace_at}
+use Rattle.root_laws.specs.AncestorSteps.{steps_of, ancestors_if_any, trace_steps, TraceStepsAreFew}
 use Rattle.lineage_trace.specs.declared.finding.Derived.{Derived}
 use Rattle.lineage_trace.specs.Finding.{derived_of, IsButForDeps}
 use Rattle.lineage_trace.specs.Tracing.{IsButForAncestors}

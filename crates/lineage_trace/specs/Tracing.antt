@@ -2,7 +2,7 @@
 -- the scratch device holds.
 use Rattle.std.specs.Prelude.{◌≡◌, List, [], Option, Some, None}
 use Rattle.lc_base.specs.declared.row.Dep.{Dep}
-use Rattle.row_ancestors.specs.declared.trace.Trace.{Trace}
+use Rattle.root_laws.specs.declared.trace.Trace.{Trace}
 
 -- The ancestors in a trace; none if there is no version.
 abbrev pub ancestors_in : Option Trace → List Dep

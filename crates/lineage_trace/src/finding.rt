@@ -7,19 +7,18 @@ ghost use Rattle.std.specs.{
 ghost use Rattle.lc_base.specs.History.{latest};
 ghost use Rattle.skip_links.specs.Paths.{path};
 ghost use Rattle.entry_store.specs.Steps.{raised_count};
-ghost use Rattle.scratch_model.specs.Scratch.{is_known};
-ghost use Rattle.merkle_dag.specs.{
-  Ledger.{most_looked_at},
-  Lineage.{AgreesWith, LeavesLineage},
+ghost use Rattle.lc_io.specs.Scratch.{is_known};
+ghost use Rattle.prov_query.specs.{
+  merkle_dag.Ledger.{most_looked_at},
+  merkle_dag.Lineage.{AgreesWith, LeavesLineage},
 };
-ghost use Rattle.row_ancestors.specs.Ancestors.{itself, all_inserted, deps_of};
+ghost use Rattle.root_laws.specs.Ancestors.{itself, all_inserted, deps_of};
 ghost use Rattle.lineage_trace.specs.Finding.{derived_in, derived_of, deps_told, IsButForDeps};
 
 use crate::wanted::{Wanted, insert_all};
 use lc_base::{Answer, Dep, DepList, HostError, Key, Kind, Memory, Query};
-use lineage_host::answer;
-use merkle_dag::{Lineage, Steps};
-use scratch_model::Scratch;
+use lc_io::Scratch;
+use prov_query::{Lineage, Steps, answer};
 use std::alloc::Global;
 
 /// A version: the number of its block, and what it was derived from directly.

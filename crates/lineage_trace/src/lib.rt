@@ -1,12 +1,16 @@
 //! The ancestors of a version in a lineage: all that it was derived from, directly or by way of
-//! others.
+//! others. And the proof of them, for one who has only the root at a block.
 #![tactic(auto)]
 
 mod finding;
+mod gathering;
+mod items;
+mod proving;
 mod reaching;
 mod tracing;
 mod wanted;
+mod writing;
 
-pub use lineage_host::{Lineage, QueryError, Steps};
-pub use row_ancestors::Trace;
+pub use answer_proof::prove;
+pub use proving::prove_trace;
 pub use tracing::{trace, trace_rows};

@@ -7,22 +7,22 @@ ghost use Rattle.std.specs.{
 };
 ghost use Rattle.lc_base.specs.declared.row.Row.{Row};
 ghost use Rattle.entry_store.specs.Steps.{raised_count};
-ghost use Rattle.scratch_model.specs.Scratch.{is_known};
-ghost use Rattle.merkle_dag.specs.{
-  Ledger.{most_looked_at},
-  Lineage.{AgreesWith, LeavesLineage},
+ghost use Rattle.lc_io.specs.Scratch.{is_known};
+ghost use Rattle.prov_query.specs.{
+  merkle_dag.Ledger.{most_looked_at},
+  merkle_dag.Lineage.{AgreesWith, LeavesLineage},
 };
-ghost use Rattle.row_ancestors.specs.{
+ghost use Rattle.root_laws.specs.{
   Ancestors.{itself, all_inserted, reached_from},
-  Steps.{steps_of},
+  AncestorSteps.{steps_of},
 };
 ghost use Rattle.lineage_trace.specs.Counting.{RisesUpTo};
 
 use crate::finding::insert_deps_of;
 use crate::wanted::{Wanted, insert_all};
 use lc_base::{Dep, DepList, HostError};
-use merkle_dag::{Lineage, Steps};
-use scratch_model::Scratch;
+use lc_io::Scratch;
+use prov_query::{Lineage, Steps};
 use std::alloc::Global;
 
 /// The dependencies of a row and all that they were derived from, the last version first. There are

@@ -15,15 +15,15 @@ ghost use Rattle.std.specs.Prelude.{
 ghost use Rattle.lc_base.specs.History.{latest};
 ghost use Rattle.skip_links.specs.Paths.{path};
 ghost use Rattle.entry_store.specs.Steps.{raised_count};
-ghost use Rattle.scratch_model.specs.Scratch.{is_known};
-ghost use Rattle.merkle_dag.specs.{
-  Ledger.{most_looked_at},
-  Lineage.{ledger_in, AgreesWith, LeavesLineage},
-  Questions.{TellsPastHead},
+ghost use Rattle.lc_io.specs.Scratch.{is_known};
+ghost use Rattle.prov_query.specs.{
+  merkle_dag.Ledger.{most_looked_at},
+  merkle_dag.Lineage.{ledger_in, AgreesWith, LeavesLineage},
+  merkle_dag.Questions.{TellsPastHead},
 };
-ghost use Rattle.row_ancestors.specs.{
+ghost use Rattle.root_laws.specs.{
   Ancestors.{trace_at},
-  Steps.{steps_of, ancestors_if_any, trace_steps},
+  AncestorSteps.{steps_of, ancestors_if_any, trace_steps},
 };
 ghost use Rattle.lineage_trace.specs.{
   Counting.{RisesUpTo},
@@ -33,9 +33,9 @@ ghost use Rattle.lineage_trace.specs.{
 use crate::finding::look_up;
 use crate::reaching::reached;
 use lc_base::{DepList, HostError, Key};
-use merkle_dag::{Lineage, QueryError, Steps};
-use row_ancestors::{Trace, trace_steps_are_few};
-use scratch_model::Scratch;
+use lc_io::Scratch;
+use prov_query::{Lineage, QueryError, Steps};
+use root_laws::{Trace, trace_steps_are_few};
 use std::alloc::Global;
 
 /// The versions in the opposite order.

@@ -1,7 +1,7 @@
 //! The versions that were reached and not yet looked up, in order.
 
 ghost use Rattle.std.specs.Prelude.{◌≡◌, ◌∷◌, [], MatchOption, OnOk};
-ghost use Rattle.row_ancestors.specs.Ancestors.{itself, inserted, all_inserted};
+ghost use Rattle.root_laws.specs.Ancestors.{itself, inserted, all_inserted};
 
 use lc_base::{Dep, Key, Memory};
 use std::alloc::Global;
@@ -18,7 +18,7 @@ pub(crate) struct Wanted {
 impl Model for Wanted {
     ghost use Rattle.std.specs.Prelude.{List, map};
     ghost use Rattle.lc_base.specs.declared.row.Dep.{Dep as Version};
-    ghost use Rattle.row_ancestors.specs.Places.{version_at};
+    ghost use Rattle.root_laws.specs.Places.{version_at};
 
     ghost Value = { List Version };
 

@@ -11,17 +11,17 @@ use Rattle.lc_base.specs.declared.digest.Digest.{Digest}
 use Rattle.lc_base.specs.declared.row.Row.{Row}
 use Rattle.lc_base.specs.History.{StandsBefore, up_to}
 use Rattle.body_store.specs.Bodies.{KeptBody, BodiesState}
-use Rattle.lineage_index.specs.lineage_store.root_laws.Root.{root_of}
-use Rattle.lineage_index.proofs.lineage_store.root_laws.Lists.{all_weaker, keep_none}
-use Rattle.lineage_index.proofs.lineage_store.root_laws.UpToBlock.{earlier_roots_stay}
-use Rattle.rows_index.proofs.LastPlace.{blocks_rise}
+use Rattle.lineage_rewind.specs.root_laws.Root.{root_of}
+use Rattle.lineage_rewind.proofs.root_laws.Lists.{all_weaker, keep_none}
+use Rattle.lineage_rewind.proofs.root_laws.UpToBlock.{earlier_roots_stay}
+use Rattle.lineage_rewind.proofs.plain_rows.LastPlace.{blocks_rise}
 use Rattle.lineage_rewind.specs.root_laws.TypedLedger.{IsTypedRow}
 use Rattle.lineage_rewind.proofs.root_laws.Parts.{rows_up_to}
-use Rattle.entry_store.specs.Entries.{Entry}
-use Rattle.lineage_index.specs.lineage_store.Entries.{entries_of}
-use Rattle.lineage_index.proofs.lineage_store.Entries.{as_many, earlier_entries}
-use Rattle.lineage_index.specs.Index.{IsIndexOf}
-use Rattle.lineage_index.specs.declared.index.LineageIndex.{LineageIndex}
+use Rattle.lineage_rewind.specs.entry_store.Entries.{Entry}
+use Rattle.lineage_rewind.specs.lineage_index.Entries.{entries_of}
+use Rattle.lineage_rewind.proofs.lineage_index.StoreEntries.{as_many, earlier_entries}
+use Rattle.lineage_rewind.specs.lineage_index.Index.{IsIndexOf}
+use Rattle.lineage_rewind.specs.lineage_index.declared.index.LineageIndex.{LineageIndex}
 use Rattle.merkle_dag.specs.Kept.{KeepsLineage}
 use Rattle.merkle_dag.specs.Ledger.{roots_of}
 use Rattle.merkle_dag.proofs.LedgerSteps.{map_on_range}

@@ -8,10 +8,10 @@ use Rattle.sha2.specs.Sha256.{sha256}
 use Rattle.lc_base.specs.declared.digest.Digest.{Digest}
 use Rattle.lc_base.specs.declared.row.Row.{Row}
 use Rattle.lc_base.specs.History.{IsLawful}
-use Rattle.lineage_index.specs.lineage_store.root_laws.Root.{root_of, root_text, leaves}
-use Rattle.lineage_index.specs.Growth.{Grows}
-use Rattle.lineage_index.specs.Index.{IsIndexOf}
-use Rattle.lineage_index.specs.declared.index.LineageIndex.{LineageIndex}
+use Rattle.lineage_rewind.specs.root_laws.Root.{root_of, root_text, leaves}
+use Rattle.lineage_rewind.specs.lineage_index.Growth.{Grows}
+use Rattle.lineage_rewind.specs.lineage_index.Index.{IsIndexOf}
+use Rattle.lineage_rewind.specs.lineage_index.declared.index.LineageIndex.{LineageIndex}
 use Rattle.merkle_dag.specs.declared.limits.TheConstants.{MAX_LINEAGE_BLOCKS}
 use Rattle.merkle_dag.specs.Ledger.{IsLedger, roots_of}
 use Rattle.merkle_dag.proofs.LedgerSteps.{grows_from, roots_after, ledger_after, root_now}

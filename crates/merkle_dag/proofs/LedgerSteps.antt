@@ -14,14 +14,14 @@ use Rattle.lc_base.specs.declared.digest.Digest.{Digest}
 use Rattle.lc_base.specs.declared.row.Row.{Row}
 use Rattle.lc_base.specs.History.{IsLawful}
 use Rattle.skip_links.proofs.Lists.{range_more}
-use Rattle.lineage_index.specs.lineage_store.root_laws.Root.{root_of, root_text, digest_at, leaves}
-use Rattle.lineage_index.proofs.lineage_store.root_laws.Lists.{all_weaker, all_append}
-use Rattle.lineage_index.proofs.lineage_store.root_laws.Growing.{up_to_now}
-use Rattle.lineage_index.proofs.lineage_store.root_laws.UpToBlock.{earlier_roots_stay}
+use Rattle.lineage_rewind.specs.root_laws.Root.{root_of, root_text, digest_at, leaves}
+use Rattle.lineage_rewind.proofs.root_laws.Lists.{all_weaker, all_append}
+use Rattle.lineage_rewind.proofs.root_laws.Growing.{up_to_now}
+use Rattle.lineage_rewind.proofs.root_laws.UpToBlock.{earlier_roots_stay}
 use Rattle.merkle_dag.specs.declared.limits.TheConstants.{MAX_LINEAGE_BLOCKS}
-use Rattle.lineage_index.specs.Growth.{Grows}
+use Rattle.lineage_rewind.specs.lineage_index.Growth.{Grows}
 use Rattle.merkle_dag.specs.Ledger.{IsLedger, roots_of}
-use Rattle.lineage_index.proofs.Blocks.{rows_before, rows_now}
+use Rattle.lineage_rewind.proofs.lineage_index.Blocks.{rows_before, rows_now}
 
 pub grows_from : (rows new : List Row) (digests : List Digest) (n : ℕ) → IsLedger rows digests
     → n ≡ length digests → All (λ (row : Row). row.block ≡ n) new → IsLawful (rows ++ new)

@@ -6,6 +6,6 @@ pub mod NextRows
 pub mod FirstBlocks
 pub mod Causes
 pub mod LookedAt
-pub use Rattle.lineage_index.proofs.lineage_store as lineage_store
-pub use Rattle.rows_index.proofs as rows_index
+pub use Rattle.lineage_rewind.proofs.lineage_index as lineage_index
+pub use Rattle.lineage_rewind.proofs.plain_rows as plain_rows
 pub use Rattle.lineage_rewind.proofs.root_laws as root_laws

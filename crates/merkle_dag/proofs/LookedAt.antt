@@ -8,11 +8,11 @@ use Rattle.std.specs.Cmp.Lexicographic.{pointwise}
 use Rattle.lc_base.specs.declared.digest.Digest.{Digest}
 use Rattle.lc_base.specs.declared.row.Row.{Row}
 use Rattle.lc_base.specs.History.{newest}
-use Rattle.lineage_index.specs.lineage_store.skip_links.declared.limits.TheConstants.{MAX_LEVEL}
+use Rattle.skip_links.specs.declared.limits.TheConstants.{MAX_LEVEL}
 use Rattle.skip_links.specs.Paths.{path, digits_up_to}
 use Rattle.skip_links.proofs.OverRows.{path_short, path_none}
-use Rattle.entry_store.specs.Steps.{raised_count}
-use Rattle.lineage_index.proofs.lineage_store.root_laws.Lists.{all_reverse, found_has}
+use Rattle.lineage_rewind.specs.entry_store.Steps.{raised_count}
+use Rattle.lineage_rewind.proofs.root_laws.Lists.{all_reverse, found_has}
 use Rattle.merkle_dag.specs.Ledger.{IsLedger, most_looked_at}
 
 -- ---- a greater number has no fewer digits

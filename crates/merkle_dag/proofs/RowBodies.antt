@@ -9,16 +9,16 @@ use Rattle.std.proofs.lemmas.Option.{none-some, same_Some, slice_get-map}
 use Rattle.lc_base.specs.declared.digest.Digest.{Digest}
 use Rattle.lc_base.specs.declared.row.Row.{Row}
 use Rattle.body_store.specs.Bodies.{KeptBody, BodiesState, bodies_of, bodies_in, body_at_index}
-use Rattle.prov_entry.specs.Spelling.{body_fields}
-use Rattle.lineage_index.specs.lineage_store.root_laws.Naming.{body_of}
-use Rattle.entry_store.specs.Entries.{Entry}
-use Rattle.lineage_index.specs.lineage_store.Entries.{entries_after, entries_of}
-use Rattle.lineage_index.specs.lineage_store.ReadBack.{rows_read}
-use Rattle.lineage_index.proofs.lineage_store.Entries.{as_many, entries_stay}
-use Rattle.lineage_index.proofs.lineage_store.ReadBack.{rows_back}
-use Rattle.lineage_index.specs.declared.index.LineageIndex.{LineageIndex}
-use Rattle.lineage_index.specs.Index.{IsIndexOf}
-use Rattle.lineage_index.specs.Growth.{Grows}
+use Rattle.lineage_rewind.specs.prov_entry.Spelling.{body_fields}
+use Rattle.lineage_rewind.specs.root_laws.Naming.{body_of}
+use Rattle.lineage_rewind.specs.entry_store.Entries.{Entry}
+use Rattle.lineage_rewind.specs.lineage_index.Entries.{entries_after, entries_of}
+use Rattle.lineage_rewind.specs.lineage_index.ReadBack.{rows_read}
+use Rattle.lineage_rewind.proofs.lineage_index.StoreEntries.{as_many, entries_stay}
+use Rattle.lineage_rewind.proofs.lineage_index.ReadBack.{rows_back}
+use Rattle.lineage_rewind.specs.lineage_index.declared.index.LineageIndex.{LineageIndex}
+use Rattle.lineage_rewind.specs.lineage_index.Index.{IsIndexOf}
+use Rattle.lineage_rewind.specs.lineage_index.Growth.{Grows}
 use Rattle.lineage_rewind.specs.root_laws.TypedLedger.{IsTypedRow}
 use Rattle.lineage_rewind.proofs.root_laws.Spellings.{bodies_spelled}
 use Rattle.merkle_dag.specs.Adding.{bytes_of}

@@ -9,8 +9,8 @@ use Rattle.std.proofs.lemmas.Option.{slice_get-get_or, slice_get_within}
 use Rattle.lc_base.specs.declared.row.Row.{Row}
 use Rattle.lc_base.specs.declared.row.Dep.{Dep}
 use Rattle.lc_base.specs.History.{version_of}
-use Rattle.rows_index.specs.Users.{AreVersionsAt, version_at}
-use Rattle.rows_index.proofs.Lists.{as_long, version_there}
+use Rattle.lineage_rewind.specs.plain_rows.Users.{AreVersionsAt, version_at}
+use Rattle.lineage_rewind.proofs.plain_rows.Lists.{as_long, version_there}
 
 -- the row at an index, where a version is there
 row_of_version : (rows : List Row) (index : ℕ) (dep : Dep) → version_at rows index ≡ Some dep

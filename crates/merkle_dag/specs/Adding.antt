@@ -2,8 +2,8 @@
 use Rattle.std.specs.Prelude.{ℕ, List}
 use Rattle.std.specs.List.{concat}
 use Rattle.lc_base.specs.declared.row.Row.{Row}
-use Rattle.prov_entry.specs.Spelling.{body_fields}
-use Rattle.lineage_index.specs.lineage_store.root_laws.Naming.{body_of}
+use Rattle.lineage_rewind.specs.prov_entry.Spelling.{body_fields}
+use Rattle.lineage_rewind.specs.root_laws.Naming.{body_of}
 
 -- The bytes of the body of a row: its fields, one after another.
 abbrev pub bytes_of : List Row → Row → List ℕ

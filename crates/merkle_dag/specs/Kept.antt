@@ -5,10 +5,10 @@ use Rattle.lc_base.specs.declared.digest.Digest.{Digest}
 use Rattle.lc_base.specs.declared.row.Row.{Row}
 use Rattle.lineage_rewind.specs.root_laws.TypedLedger.{IsTypedRow}
 use Rattle.body_store.specs.Bodies.{BodiesState, bodies_in}
-use Rattle.entry_store.specs.Entries.{Entry}
-use Rattle.lineage_index.specs.lineage_store.ReadBack.{rows_read}
-use Rattle.lineage_index.specs.Index.{IsIndexOf}
-use Rattle.lineage_index.specs.declared.index.LineageIndex.{LineageIndex}
+use Rattle.lineage_rewind.specs.entry_store.Entries.{Entry}
+use Rattle.lineage_rewind.specs.lineage_index.ReadBack.{rows_read}
+use Rattle.lineage_rewind.specs.lineage_index.Index.{IsIndexOf}
+use Rattle.lineage_rewind.specs.lineage_index.declared.index.LineageIndex.{LineageIndex}
 use Rattle.merkle_dag.specs.declared.kept.Kept.{Kept}
 use Rattle.merkle_dag.specs.Ledger.{IsLedger, roots_of}
 

@@ -6,7 +6,7 @@ use Rattle.lc_base.specs.declared.digest.Digest.{Digest}
 use Rattle.lc_base.specs.declared.row.Row.{Row}
 use Rattle.lc_base.specs.History.{IsLawful}
 use Rattle.skip_links.specs.Paths.{binary_digits}
-use Rattle.lineage_index.specs.lineage_store.root_laws.Root.{root_of}
+use Rattle.lineage_rewind.specs.root_laws.Root.{root_of}
 use Rattle.merkle_dag.specs.declared.limits.TheConstants.{MAX_LINEAGE_BLOCKS}
 
 -- Rows, and the digests of their blocks.

@@ -3,10 +3,10 @@ use Rattle.std.specs.Prelude.{◌≡◌, ℕ, List, [], take}
 use Rattle.lc_base.specs.Faults.{HasCause}
 use Rattle.lc_base.specs.declared.digest.Digest.{Digest}
 use Rattle.lc_base.specs.declared.row.Row.{Row}
-use Rattle.scratch_model.specs.Scratch.{ScratchState, Retains}
+use Rattle.lc_io.specs.Scratch.{ScratchState, Retains}
 use Rattle.body_store.specs.Bodies.{BodiesState}
 use Rattle.body_store.specs.Agreement.{Agrees}
-use Rattle.entry_store.specs.declared.entry.Facts.{Facts}
+use Rattle.lineage_rewind.specs.entry_store.declared.entry.Facts.{Facts}
 use Rattle.merkle_dag.specs.Ledger.{Ledger}
 
 -- The rows of the blocks, the digests of the blocks, and where the bodies of the rows are kept.

@@ -1,8 +1,8 @@
 -- What stays of a lineage over one call stays over several, and over calls that are not lent the
 -- lineage.
 use Rattle.std.proofs.Common.{refl, ◌∙◌}
-use Rattle.scratch_model.specs.Scratch.{ScratchState, Retains}
-use Rattle.scratch_model.proofs.Retaining.{retains_refl, retains_trans}
+use Rattle.lc_io.specs.Scratch.{ScratchState, Retains}
+use Rattle.lc_io.proofs.Retaining.{retains_refl, retains_trans}
 use Rattle.body_store.proofs.Agreeing.{agrees_on}
 use Rattle.merkle_dag.specs.Lineage.{LineageState, StaysSame}
 

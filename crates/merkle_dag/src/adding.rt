@@ -10,14 +10,14 @@ ghost use Rattle.lc_base.specs.{
   declared.row.Row.{Row},
   declared.host_error.HostError.TheVariants.{Fault},
 };
-ghost use Rattle.scratch_model.specs.Scratch.{Retains};
+ghost use Rattle.lc_io.specs.Scratch.{Retains};
 ghost use Rattle.body_store.specs.{Bodies.{bodies_in}, Agreement.{Agrees}};
 ghost use Rattle.lineage_rewind.specs.root_laws.TypedLedger.{IsTypedRow};
 
 use body_store::Bodies;
 use lc_base::{Bytes, HostError, Row};
+use lc_io::Scratch;
 use lineage_rewind::check_row;
-use scratch_model::Scratch;
 use std::alloc::Global;
 use std::rc::RcSlice;
 

@@ -10,9 +10,9 @@ ghost use Rattle.lc_base.specs.{
   declared.row.Row.{Row},
   declared.host_error.HostError.TheVariants.{Fault},
 };
-ghost use Rattle.scratch_model.specs.Scratch.{Retains};
+ghost use Rattle.lc_io.specs.Scratch.{Retains};
 ghost use Rattle.body_store.specs.Agreement.{Agrees};
-ghost use Rattle.lineage_index.specs.lineage_store.root_laws.Root.{root_of};
+ghost use Rattle.lineage_rewind.specs.root_laws.Root.{root_of};
 ghost use Rattle.merkle_dag.specs.{
   declared.limits.TheConstants.{MAX_LINEAGE_BLOCKS},
   Kept.{IsWhole, rows_kept},
@@ -22,8 +22,8 @@ use crate::adding::{add_bodies, check_rows};
 use crate::root::root_of_tree;
 use body_store::Bodies;
 use lc_base::{Digest, HostError, RowList, check_digest};
-use lineage_index::LineageIndex;
-use scratch_model::Scratch;
+use lc_io::Scratch;
+use lineage_rewind::LineageIndex;
 
 /// The index over the rows of all blocks, where the bodies of the rows are kept, and the digest and
 /// the root of each block.

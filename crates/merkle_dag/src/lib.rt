@@ -11,8 +11,7 @@ mod rewinding;
 mod root;
 mod uses;
 
-pub use entry_store::EntryId;
 pub use limits::MAX_LINEAGE_BLOCKS;
 pub use lineage::Lineage;
-pub use lineage_index::Steps;
+pub use lineage_rewind::{EntryId, Steps};
 pub use query_error::QueryError;

@@ -29,18 +29,19 @@ ghost use Rattle.lc_base.specs.{
   History.{IsLawful, latest, newest, up_to, uses},
   declared.row.Row.{Row},
 };
-ghost use Rattle.scratch_model.specs.Scratch.{ScratchState, is_known, Retains};
+ghost use Rattle.lc_io.specs.Scratch.{ScratchState, is_known, Retains};
 ghost use Rattle.skip_links.specs.Paths.{path};
-ghost use Rattle.rows_index.specs.Places.{IsRowAt};
-ghost use Rattle.entry_store.specs.Steps.{raised_count};
-ghost use Rattle.lineage_index.specs.Closed.{IsOpenListOf, closed_users};
-ghost use Rattle.lineage_index.specs.lineage_store.{
-  Versions.{newest_entry},
-  Entries.{entries_of},
-  OnPath.{AreEntriesIn},
+ghost use Rattle.lineage_rewind.specs.{
+  plain_rows.Places.{IsRowAt},
+  entry_store.Steps.{raised_count},
+  lineage_index.Closed.{IsOpenListOf, closed_users},
+  lineage_index.Versions.{newest_entry},
+  lineage_index.Entries.{entries_of},
+  lineage_index.OnPath.{AreEntriesIn},
+  root_laws.Naming.{header_of},
+  root_laws.Root.{root_of, leaves},
+  root_laws.TypedLedger.{IsTypedLedger},
 };
-ghost use Rattle.lineage_index.specs.lineage_store.root_laws.{Naming.{header_of}, Root.{root_of, leaves}};
-ghost use Rattle.lineage_rewind.specs.root_laws.TypedLedger.{IsTypedLedger};
 ghost use Rattle.merkle_dag.specs.{
   Adding.{bytes_of},
   declared.limits.TheConstants.{MAX_LINEAGE_BLOCKS},
@@ -52,12 +53,9 @@ use crate::kept::{Kept, discard, grow};
 use crate::rewinding::first_blocks;
 use crate::uses::{nth_version, users_of, versions_at};
 use body_store::Bodies;
-use entry_store::{EntryId, EntryList, Facts, Store};
-use lc_base::{Dep, DepList, Digest, HostError, Key, Memory, RowList};
-use lineage_index::{LineageIndex, Steps, Tree};
-use prov_entry::Header;
-use resources::Resources;
-use scratch_model::Scratch;
+use lc_base::{Dep, DepList, Digest, HostError, Key, Memory, Resources, RowList};
+use lc_io::Scratch;
+use lineage_rewind::{EntryId, EntryList, Facts, Header, LineageIndex, Steps, Store, Tree};
 use std::marker::Model;
 use std::rc::RcSlice;
 

@@ -3,7 +3,7 @@
 
 ghost use Rattle.std.specs.Prelude.{◌≡◌, ◌+◌, ◌≤◌, ◌<◌, length, take, IfOk};
 ghost use Rattle.lc_base.specs.History.{up_to};
-ghost use Rattle.scratch_model.specs.Scratch.{ScratchState};
+ghost use Rattle.lc_io.specs.Scratch.{ScratchState};
 ghost use Rattle.body_store.specs.Agreement.{Agrees};
 ghost use Rattle.merkle_dag.specs.{Kept.{IsWhole, rows_kept}, Lineage.{first_bodies}};
 

@@ -3,11 +3,10 @@
 
 ghost use Rattle.std.specs.Prelude.{◌≡◌};
 ghost use Rattle.sha2.specs.Sha256.{sha256};
-ghost use Rattle.lineage_index.specs.lineage_store.root_laws.Root.{root_text};
+ghost use Rattle.lineage_rewind.specs.root_laws.Root.{root_text};
 
 use lc_base::Digest;
-use lineage_index::Tree;
-use prov_entry::root_digest;
+use lineage_rewind::{Tree, root_digest};
 
 /// The root of a block over the leaves of a tree.
 pub(crate) fn root_of_tree(tree: &Tree, block: u32, digest: &Digest) -> Digest

@@ -7,13 +7,15 @@ ghost use Rattle.lc_base.specs.{
   declared.row.Row.{Row},
   declared.row.Dep.{Dep},
 };
-ghost use Rattle.rows_index.specs.Users.{AreVersionsAt};
-ghost use Rattle.lineage_index.specs.lineage_store.Entries.{entries_of};
+ghost use Rattle.lineage_rewind.specs.{
+  plain_rows.Users.{AreVersionsAt},
+  lineage_index.Entries.{entries_of},
+};
 ghost use Rattle.merkle_dag.specs.Kept.{IsWhole, rows_kept};
 
 use crate::kept::Kept;
-use entry_store::{EntryId, Store};
 use lc_base::{Dep, DepList, Memory};
+use lineage_rewind::{EntryId, Store};
 use std::alloc::Global;
 
 /// The version that the row at an index is.

@@ -1,8 +1,23 @@
 //! Putting expressions together from their parts, with their heights.
 
-ghost use Rattle.std.specs.Prelude.{◌≡◌, ◌≤◌, ◌+◌, ℕ, List, map, max, Ok, Err, [], ◌∷◌, ◌++◌, IfOk, IfErr};
+ghost use Rattle.std.specs.Prelude.{
+  ◌≡◌,
+  ◌≤◌,
+  ◌+◌,
+  ℕ,
+  List,
+  map,
+  max,
+  Ok,
+  Err,
+  [],
+  ◌∷◌,
+  ◌++◌,
+  IfOk,
+  IfErr,
+};
 ghost use Rattle.contract_grammar.specs.declared.stop.ParseStop.TheVariants as stops;
-ghost use Rattle.contract_tokens.specs.declared.token.Token.{Token};
+ghost use Rattle.contract_grammar.specs.contract_tokens.declared.token.Token.{Token};
 ghost use Rattle.contract_tree.specs.Tree.{tree_of, trees, heights, height as height_of};
 ghost use Rattle.contract_tree.specs.Tree as tree;
 ghost use Rattle.contract_grammar.specs.{

@@ -4,7 +4,7 @@
 ghost use Rattle.std.specs.Prelude.{◌≡◌, ◌<◌, ◌≤◌, ◌-◌, List, map};
 ghost use Rattle.contract_tree.specs.Tree.{tree_of};
 ghost use Rattle.contract_tree.specs.Tree as tree;
-ghost use Rattle.contract_tokens.specs.declared.token.Mark.TheVariants as m;
+ghost use Rattle.contract_grammar.specs.contract_tokens.declared.token.Mark.TheVariants as m;
 ghost use Rattle.contract_grammar.specs.{
   Marks.{is, has, sign_of},
   Rules.{turns, each, put, next, seq},
@@ -15,8 +15,7 @@ ghost use Rattle.contract_grammar.specs.{
 };
 
 use crate::build::{self, Parsed, Subtree, Subtrees};
-use contract_grammar::{COMPARISONS, Cursor, MAX_PENDING, NameKind, Obstacle, WHOLE};
-use contract_tokens::Mark;
+use contract_grammar::{COMPARISONS, Cursor, MAX_PENDING, Mark, NameKind, Obstacle, WHOLE};
 use contract_tree::{Expr, ExprList, ExprNode};
 
 fn literal(cursor: &mut Cursor<'_>) -> Parsed<Subtree>

@@ -6,15 +6,15 @@ use Rattle.std.proofs.lemmas.List.Elements.{All-append}
 use Rattle.std.proofs.lemmas.Option.{slice_get-get_or, get_or_from_slice_get}
 use Rattle.lc_base.specs.declared.row.Row.{Row}
 use Rattle.lc_base.specs.History.{IsLawful}
-use Rattle.rows_index.specs.declared.index.RowsIndex.{RowsIndex}
-use Rattle.rows_index.specs.Index.{IsIndexOf}
-use Rattle.rows_index.specs.Users.{AreVersionsAt}
-use Rattle.rows_index.proofs.Marked.{get_here}
-use Rattle.rows_index.proofs.UsedEnd.{at_front, get_front}
+use Rattle.plain_rows.specs.declared.index.RowsIndex.{RowsIndex}
+use Rattle.plain_rows.specs.Index.{IsIndexOf}
+use Rattle.plain_rows.specs.Users.{AreVersionsAt}
+use Rattle.plain_rows.proofs.Marked.{get_here}
+use Rattle.plain_rows.proofs.UsedEnd.{at_front, get_front}
 use Rattle.root_laws.specs.TypedLedger.{IsTypedRow}
 use Rattle.plain_rows.specs.declared.kept.KeptRow.{KeptRow}
 use Rattle.plain_rows.specs.Kept.{row_of, rows_with, rows_of, IsKeptAs, AreKept, KeepsRows}
-use Rattle.rows_index.proofs.Lists.{found_all, versions_stay}
+use Rattle.plain_rows.proofs.Lists.{found_all, versions_stay}
 
 -- ---- no rows
 

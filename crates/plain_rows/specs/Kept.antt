@@ -4,9 +4,9 @@ use Rattle.std.specs.List.{filter_map, All}
 use Rattle.lc_base.specs.declared.row.Row.{Row}
 use Rattle.lc_base.specs.declared.row.Dep.{Dep}
 use Rattle.lc_base.specs.History.{IsLawful}
-use Rattle.rows_index.specs.declared.index.RowsIndex.{RowsIndex}
-use Rattle.rows_index.specs.Index.{IsIndexOf}
-use Rattle.rows_index.specs.Users.{AreVersionsAt, version_at}
+use Rattle.plain_rows.specs.declared.index.RowsIndex.{RowsIndex}
+use Rattle.plain_rows.specs.Index.{IsIndexOf}
+use Rattle.plain_rows.specs.Users.{AreVersionsAt, version_at}
 use Rattle.root_laws.specs.TypedLedger.{IsTypedRow}
 use Rattle.plain_rows.specs.declared.kept.KeptRow.{KeptRow}
 

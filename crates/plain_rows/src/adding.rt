@@ -7,16 +7,16 @@ ghost use Rattle.std.specs.{
   Option.{is_some},
 };
 ghost use Rattle.lc_base.specs.{declared.row.Row.{Row}, History.{IsLawful}};
-ghost use Rattle.rows_index.specs.Index.{IsIndexOf};
-ghost use Rattle.root_laws.specs.TypedLedger.{IsTypedRow};
 ghost use Rattle.plain_rows.specs.{
+  Index.{IsIndexOf},
   declared.kept.KeptRow.{KeptRow as Kept},
   Kept.{AreKept, KeepsRows, rows_of, rows_with},
 };
+ghost use Rattle.root_laws.specs.TypedLedger.{IsTypedRow};
 
+use crate::index::RowsIndex;
 use crate::kept::{KeptRow, kept_row, row_of};
 use lc_base::{Memory, Row};
-use rows_index::RowsIndex;
 use std::alloc::Global;
 
 /// Adds rows to the index, and returns them as they are to be kept.

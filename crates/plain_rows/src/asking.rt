@@ -10,12 +10,11 @@ ghost use Rattle.lc_base.specs.{
   Parts.{count_in, item_in, list_in, question, version_in},
   declared.limits.TheConstants.{MAX_DEPS},
 };
-ghost use Rattle.rows_index.specs.Places.{IsRowAt};
-ghost use Rattle.plain_rows.specs.Kept.{Holds, IsFound, IsListAt, rows_of};
+ghost use Rattle.plain_rows.specs.{Places.{IsRowAt}, Kept.{Holds, IsFound, IsListAt, rows_of}};
 
+use crate::index::RowsIndex;
 use crate::kept::{KeptRow, nth_version, versions_at};
 use lc_base::{Answer, Dep, Duplicate, Key, Kind, Memory, Query, Version};
-use rows_index::RowsIndex;
 use std::alloc::Global;
 
 /// The last row of the key with a block up to `at`; `None` if there is none.

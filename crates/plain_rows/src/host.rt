@@ -14,10 +14,10 @@ ghost use Rattle.lc_base.specs.{
 ghost use Rattle.plain_rows.specs.Kept.{KeepsRows, rows_of};
 
 use crate::asking::{count, item, version};
+use crate::index::RowsIndex;
 use crate::kept::KeptRow;
 use crate::rows::PlainRows;
 use lc_base::{Dep, Host, HostError, Key, Kind, Memory, Query, Version};
-use rows_index::RowsIndex;
 use std::alloc::Global;
 
 fn hist(

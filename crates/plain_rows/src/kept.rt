@@ -3,13 +3,12 @@
 
 ghost use Rattle.std.specs.Prelude.{◌≡◌, ◌<◌, List, Some, length, slice_get, IfOk};
 ghost use Rattle.lc_base.specs.{declared.row.Row.{Row}, declared.row.Dep.{Dep}};
-ghost use Rattle.rows_index.specs.Users.{AreVersionsAt, version_at};
+ghost use Rattle.plain_rows.specs.{Users.{AreVersionsAt, version_at}, Kept.{AreKept, IsKeptAs}};
 ghost use Rattle.root_laws.specs.TypedLedger.{IsTypedRow};
-ghost use Rattle.plain_rows.specs.Kept.{AreKept, IsKeptAs};
 
+use crate::users::IndexList;
 use lc_base::{Dep, DepList, Duplicate, Key, Memory, Row, Value};
 use root_laws::check_row;
-use rows_index::IndexList;
 use std::alloc::Global;
 
 /// A row, whose dependencies are the indexes of their rows.

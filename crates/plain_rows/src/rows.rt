@@ -7,9 +7,9 @@ ghost use Rattle.root_laws.specs.TypedLedger.{IsTypedRow};
 
 use crate::adding::append;
 use crate::asking::answer;
+use crate::index::RowsIndex;
 use crate::kept::KeptRow;
 use lc_base::{Answer, Memory, Query, RowList};
-use rows_index::RowsIndex;
 use std::alloc::Global;
 use std::marker::Model;
 

@@ -15,15 +15,16 @@ use Rattle.lc_base.specs.declared.answer.Kind.{Kind}
 use Rattle.lc_base.specs.declared.answer.Kind.TheVariants.{Hist, Back, Fwd}
 use Rattle.lc_base.specs.declared.answer.Answer.TheVariants as answers
 use Rattle.lc_base.specs.History.{IsLawful, uses, answer_about}
-use Rattle.merkle_tree.specs.Clash.{Agree}
-use Rattle.merkle_tree.specs.Chains.{AreToldApart}
-use Rattle.merkle_tree.proofs.Chained.{list_sound}
-use Rattle.merkle_tree.proofs.Sound.{same_front}
-use Rattle.prov_entry.specs.declared.entry.Header.{Header}
-use Rattle.prov_entry.specs.declared.entry.BodyDep.{BodyDep}
-use Rattle.prov_entry.specs.declared.entry.Body.{Body}
-use Rattle.prov_entry.specs.Spelling.{IsBody, body_text}
-use Rattle.prov_entry.specs.ForwardLists.{start_text, no_uses, use_text, use_fields, uses_digest}
+use Rattle.proof_codec.specs.merkle_tree.Clash.{Agree}
+use Rattle.proof_codec.specs.merkle_tree.Chains.{AreToldApart}
+use Rattle.proof_codec.proofs.merkle_tree.Chained.{list_sound}
+use Rattle.proof_codec.proofs.merkle_tree.Sound.{same_front}
+use Rattle.root_laws.specs.prov_entry.declared.entry.Header.{Header}
+use Rattle.root_laws.specs.prov_entry.declared.entry.BodyDep.{BodyDep}
+use Rattle.root_laws.specs.prov_entry.declared.entry.Body.{Body}
+use Rattle.root_laws.specs.prov_entry.Spelling.{IsBody, body_text}
+use Rattle.root_laws.specs.prov_entry.ForwardLists.{start_text, no_uses, use_text, use_fields}
+use Rattle.root_laws.specs.prov_entry.ForwardLists.{uses_digest}
 use Rattle.proof_codec.proofs.entry_views.Determined.{determined}
 use Rattle.root_laws.specs.Naming.{header_of, body_of, named_before, with_digest}
 use Rattle.root_laws.proofs.Lists.{contained}

@@ -6,8 +6,8 @@ use Rattle.std.proofs.lemmas.Bool.{and_parts}
 use Rattle.lc_base.specs.declared.digest.Digest.{Digest}
 use Rattle.lc_base.specs.declared.row.Row.{Row}
 use Rattle.lc_base.specs.History.{IsLawful, newest, uses}
-use Rattle.prov_entry.specs.declared.entry.Leaf.{Leaf}
-use Rattle.prov_entry.specs.Spelling.{key_or_empty}
+use Rattle.root_laws.specs.prov_entry.declared.entry.Leaf.{Leaf}
+use Rattle.root_laws.specs.prov_entry.Spelling.{key_or_empty}
 use Rattle.root_laws.specs.NamingLaws.{digest_of_row}
 use Rattle.root_laws.specs.Root.{is_among, is_below, keys_of, sentinel, leaf_of, block_of}
 use Rattle.root_laws.proofs.Keys.{same_key}

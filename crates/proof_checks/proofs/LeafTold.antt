@@ -10,16 +10,16 @@ use Rattle.sha2.specs.Sha256.{sha256}
 use Rattle.sha2.proofs.Facts256.{length-sha256}
 use Rattle.lc_base.specs.declared.row.Row.{Row}
 use Rattle.lc_base.specs.History.{IsLawful, up_to}
-use Rattle.merkle_tree.specs.Tree.{leaf_text, tree_hash, node_texts, climb_texts_to}
-use Rattle.merkle_tree.specs.Climbing.{top_of}
-use Rattle.merkle_tree.specs.Clash.{Agree}
-use Rattle.merkle_tree.specs.Levels.{digest_of}
-use Rattle.merkle_tree.specs.declared.limits.TheConstants.{MAX_HEIGHT}
-use Rattle.merkle_tree.proofs.Agreeing.{agree_or_clash}
-use Rattle.merkle_tree.proofs.Sound.{length-climb, length-tree}
-use Rattle.merkle_tree.proofs.TheLaws.{paths_are_sound}
-use Rattle.prov_entry.specs.declared.entry.Leaf.{Leaf}
-use Rattle.prov_entry.specs.Spelling.{leaf_bytes}
+use Rattle.proof_codec.specs.merkle_tree.Tree.{leaf_text, tree_hash, node_texts, climb_texts_to}
+use Rattle.proof_codec.specs.merkle_tree.Climbing.{top_of}
+use Rattle.proof_codec.specs.merkle_tree.Clash.{Agree}
+use Rattle.proof_codec.specs.merkle_tree.Levels.{digest_of}
+use Rattle.proof_codec.specs.merkle_tree.declared.limits.TheConstants.{MAX_HEIGHT}
+use Rattle.proof_codec.proofs.merkle_tree.Agreeing.{agree_or_clash}
+use Rattle.proof_codec.proofs.merkle_tree.Sound.{length-climb, length-tree}
+use Rattle.proof_codec.proofs.merkle_tree.TheLaws.{paths_are_sound}
+use Rattle.root_laws.specs.prov_entry.declared.entry.Leaf.{Leaf}
+use Rattle.root_laws.specs.prov_entry.Spelling.{leaf_bytes}
 use Rattle.proof_codec.specs.entry_views.Leaves.{leaf_field}
 use Rattle.proof_codec.proofs.entry_views.Determined.{determined}
 use Rattle.proof_codec.specs.declared.proof.LeafProof.{LeafProof}

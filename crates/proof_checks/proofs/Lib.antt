@@ -17,3 +17,19 @@ pub mod MadeAccepted
 pub mod MadeLawful
 pub mod MadeOnce
 pub mod MadeThere
+pub mod TracePassing
+pub mod Named
+pub mod Itemed
+pub mod TraceSound
+pub mod TraceMade
+pub mod Short
+pub mod TraceMadeSpelled
+pub mod RangePassing
+pub mod Links
+pub mod Walks
+pub mod Bodies
+pub mod RangeSound
+pub mod Further
+pub mod RangeMade
+pub mod RangeMadeSpelled
+pub use Rattle.proof_codec.proofs as proof_codec

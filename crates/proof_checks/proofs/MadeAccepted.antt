@@ -13,10 +13,10 @@ use Rattle.lc_base.specs.declared.answer.Kind.{Kind}
 use Rattle.lc_base.specs.declared.answer.Kind.TheVariants.{Hist, Back, Fwd}
 use Rattle.lc_base.specs.declared.answer.Answer.{Answer}
 use Rattle.lc_base.specs.History.{IsLawful, up_to, newest, latest, uses, answer_of, scan}
-use Rattle.prov_entry.specs.declared.entry.Header.{Header}
-use Rattle.prov_entry.specs.declared.entry.Body.{Body}
-use Rattle.prov_entry.specs.Spelling.{body_text}
-use Rattle.prov_entry.specs.ForwardLists.{uses_digest}
+use Rattle.root_laws.specs.prov_entry.declared.entry.Header.{Header}
+use Rattle.root_laws.specs.prov_entry.declared.entry.Body.{Body}
+use Rattle.root_laws.specs.prov_entry.Spelling.{body_text}
+use Rattle.root_laws.specs.prov_entry.ForwardLists.{uses_digest}
 use Rattle.root_laws.specs.Naming.{header_of, body_of}
 use Rattle.root_laws.specs.Root.{leaves, root_text, digest_at, root_of}
 use Rattle.root_laws.proofs.Keys.{key_is_key}

@@ -13,15 +13,15 @@ use Rattle.sha2.specs.Sha256.{sha256}
 use Rattle.lc_base.specs.declared.digest.Digest.{Digest}
 use Rattle.lc_base.specs.declared.row.Row.{Row}
 use Rattle.lc_base.specs.History.{IsLawful}
-use Rattle.merkle_tree.specs.Tree.{leaf_text, tree_hash, hash_to, audit_to, audit_path}
-use Rattle.merkle_tree.specs.Tree.{audit_length, Climb}
-use Rattle.merkle_tree.specs.Climbing.{bytes_of, top_of}
-use Rattle.merkle_tree.specs.declared.limits.TheConstants.{MAX_HEIGHT}
-use Rattle.merkle_tree.proofs.Sound.{length-tree}
-use Rattle.merkle_tree.proofs.Rules.{paths_have_their_length}
-use Rattle.merkle_tree.proofs.TheLaws.{paths_are_complete}
-use Rattle.prov_entry.specs.declared.entry.Leaf.{Leaf}
-use Rattle.prov_entry.specs.Spelling.{leaf_bytes, text_of_root}
+use Rattle.proof_codec.specs.merkle_tree.Tree.{leaf_text, tree_hash, hash_to, audit_to, audit_path}
+use Rattle.proof_codec.specs.merkle_tree.Tree.{audit_length, Climb}
+use Rattle.proof_codec.specs.merkle_tree.Climbing.{bytes_of, top_of}
+use Rattle.proof_codec.specs.merkle_tree.declared.limits.TheConstants.{MAX_HEIGHT}
+use Rattle.proof_codec.proofs.merkle_tree.Sound.{length-tree}
+use Rattle.proof_codec.proofs.merkle_tree.Rules.{paths_have_their_length}
+use Rattle.proof_codec.proofs.merkle_tree.TheLaws.{paths_are_complete}
+use Rattle.root_laws.specs.prov_entry.declared.entry.Leaf.{Leaf}
+use Rattle.root_laws.specs.prov_entry.Spelling.{leaf_bytes, text_of_root}
 use Rattle.root_laws.specs.Root.{keys_of, sentinel, leaf_of, leaves, root_text}
 use Rattle.root_laws.specs.TypedLedger.{IsTypedRow}
 use Rattle.root_laws.proofs.Lists.{all_append}

@@ -13,13 +13,13 @@ use Rattle.lc_base.specs.declared.row.Row.{Row}
 use Rattle.lc_base.specs.declared.row.Dep.{Dep}
 use Rattle.lc_base.specs.declared.answer.Query.{Query}
 use Rattle.lc_base.specs.History.{IsLawful, up_to, latest, uses}
-use Rattle.merkle_tree.specs.Tree.{audit_path}
-use Rattle.merkle_tree.specs.Climbing.{bytes_of}
+use Rattle.proof_codec.specs.merkle_tree.Tree.{audit_path}
+use Rattle.proof_codec.specs.merkle_tree.Climbing.{bytes_of}
 use Rattle.skip_links.specs.Paths.{path}
-use Rattle.prov_entry.specs.declared.entry.Leaf.{Leaf}
-use Rattle.prov_entry.specs.declared.entry.Header.{Header}
-use Rattle.prov_entry.specs.declared.entry.Body.{Body}
-use Rattle.prov_entry.specs.Spelling.{IsLeaf, key_or_empty}
+use Rattle.root_laws.specs.prov_entry.declared.entry.Leaf.{Leaf}
+use Rattle.root_laws.specs.prov_entry.declared.entry.Header.{Header}
+use Rattle.root_laws.specs.prov_entry.declared.entry.Body.{Body}
+use Rattle.root_laws.specs.prov_entry.Spelling.{IsLeaf, key_or_empty}
 use Rattle.root_laws.specs.KeyLaws.{IsNext}
 use Rattle.root_laws.specs.Naming.{body_of}
 use Rattle.root_laws.specs.Root.{is_among, keys_of, is_below, sentinel, leaf_of, leaves, digest_at}

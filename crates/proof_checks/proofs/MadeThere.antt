@@ -9,10 +9,10 @@ use Rattle.std.proofs.lemmas.List.Sums.{fails_before_first, passes_at_first}
 use Rattle.lc_base.specs.declared.row.Row.{Row}
 use Rattle.lc_base.specs.declared.answer.Query.{Query}
 use Rattle.lc_base.specs.History.{up_to, scan}
-use Rattle.merkle_tree.specs.Tree.{audit_path}
-use Rattle.merkle_tree.specs.Climbing.{bytes_of}
-use Rattle.prov_entry.specs.declared.entry.Leaf.{Leaf}
-use Rattle.prov_entry.specs.Spelling.{key_or_empty}
+use Rattle.proof_codec.specs.merkle_tree.Tree.{audit_path}
+use Rattle.proof_codec.specs.merkle_tree.Climbing.{bytes_of}
+use Rattle.root_laws.specs.prov_entry.declared.entry.Leaf.{Leaf}
+use Rattle.root_laws.specs.prov_entry.Spelling.{key_or_empty}
 use Rattle.root_laws.specs.KeyLaws.{IsNext}
 use Rattle.root_laws.specs.Root.{keys_of, is_below, next_key, sentinel, leaf_of, leaves, digest_at}
 use Rattle.root_laws.specs.Root.{root_of}

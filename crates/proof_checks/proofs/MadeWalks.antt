@@ -14,8 +14,8 @@ use Rattle.skip_links.specs.Links.{links}
 use Rattle.skip_links.proofs.Towers.{links_up_to}
 use Rattle.skip_links.specs.Paths.{onward as link_onward, path_from}
 use Rattle.skip_links.proofs.Walks.{ended}
-use Rattle.prov_entry.specs.declared.entry.Link.{Link}
-use Rattle.prov_entry.specs.declared.entry.Header.{Header}
+use Rattle.root_laws.specs.prov_entry.declared.entry.Link.{Link}
+use Rattle.root_laws.specs.prov_entry.declared.entry.Header.{Header}
 use Rattle.root_laws.specs.Naming.{header_of, named_before, link_among}
 use Rattle.root_laws.specs.WalkLaws.{text_of_row}
 use Rattle.root_laws.proofs.Lists.{find_map, map_reverse}

@@ -10,13 +10,13 @@ use Rattle.lc_base.specs.declared.row.Row.{Row}
 use Rattle.lc_base.specs.declared.answer.Query.{Query}
 use Rattle.lc_base.specs.declared.answer.Answer.TheVariants as answers
 use Rattle.lc_base.specs.History.{IsLawful, up_to, latest, uses, answer_of, scan}
-use Rattle.prov_entry.specs.declared.entry.Link.{Link}
-use Rattle.merkle_tree.specs.Clash.{Agree, Clash}
-use Rattle.merkle_tree.proofs.Agreeing.{agree_or_clash}
-use Rattle.prov_entry.specs.declared.entry.Header.{Header}
-use Rattle.prov_entry.specs.declared.entry.Body.{Body}
-use Rattle.prov_entry.specs.Spelling.{header_text, body_text}
-use Rattle.prov_entry.specs.ForwardLists.{start_text}
+use Rattle.root_laws.specs.prov_entry.declared.entry.Link.{Link}
+use Rattle.proof_codec.specs.merkle_tree.Clash.{Agree, Clash}
+use Rattle.proof_codec.proofs.merkle_tree.Agreeing.{agree_or_clash}
+use Rattle.root_laws.specs.prov_entry.declared.entry.Header.{Header}
+use Rattle.root_laws.specs.prov_entry.declared.entry.Body.{Body}
+use Rattle.root_laws.specs.prov_entry.Spelling.{header_text, body_text}
+use Rattle.root_laws.specs.prov_entry.ForwardLists.{start_text}
 use Rattle.root_laws.specs.Naming.{header_of, body_of}
 use Rattle.root_laws.specs.WalkLaws.{header_texts}
 use Rattle.root_laws.specs.Root.{leaves, root_text, root_of, digest_at}

@@ -4,11 +4,11 @@ use Rattle.std.specs.List.{All, Contains}
 use Rattle.sha2.specs.Sha256.{sha256}
 use Rattle.lc_base.specs.declared.row.Row.{Row}
 use Rattle.lc_base.specs.History.{IsLawful}
-use Rattle.merkle_tree.specs.Clash.{Agree}
-use Rattle.merkle_tree.proofs.Agreeing.{same_or_clash}
-use Rattle.prov_entry.specs.declared.entry.Header.{Header}
-use Rattle.prov_entry.specs.declared.entry.Body.{Body}
-use Rattle.prov_entry.specs.Spelling.{IsHeader, IsBody, header_text, body_text}
+use Rattle.proof_codec.specs.merkle_tree.Clash.{Agree}
+use Rattle.proof_codec.proofs.merkle_tree.Agreeing.{same_or_clash}
+use Rattle.root_laws.specs.prov_entry.declared.entry.Header.{Header}
+use Rattle.root_laws.specs.prov_entry.declared.entry.Body.{Body}
+use Rattle.root_laws.specs.prov_entry.Spelling.{IsHeader, IsBody, header_text, body_text}
 use Rattle.proof_codec.specs.entry_views.Headers.{header_field}
 use Rattle.proof_codec.specs.entry_views.Bodies.{body_field}
 use Rattle.proof_codec.proofs.entry_views.Determined.{determined}

@@ -11,12 +11,12 @@ use Rattle.std.proofs.lemmas.Option.{none-some}
 use Rattle.sha2.specs.Sha256.{sha256}
 use Rattle.lc_base.specs.declared.row.Row.{Row}
 use Rattle.lc_base.specs.History.{IsLawful, latest, uses}
-use Rattle.prov_entry.specs.declared.entry.Link.{Link}
+use Rattle.root_laws.specs.prov_entry.declared.entry.Link.{Link}
 use Rattle.proof_codec.specs.declared.proof.Proof.{Proof}
-use Rattle.merkle_tree.specs.Clash.{Agree}
-use Rattle.merkle_tree.specs.Levels.{digest_of}
-use Rattle.prov_entry.specs.declared.entry.Header.{Header}
-use Rattle.prov_entry.specs.Spelling.{IsHeader, header_text}
+use Rattle.proof_codec.specs.merkle_tree.Clash.{Agree}
+use Rattle.proof_codec.specs.merkle_tree.Levels.{digest_of}
+use Rattle.root_laws.specs.prov_entry.declared.entry.Header.{Header}
+use Rattle.root_laws.specs.prov_entry.Spelling.{IsHeader, header_text}
 use Rattle.root_laws.specs.Naming.{header_of}
 use Rattle.root_laws.specs.WalkLaws.{text_of_row, header_texts}
 use Rattle.root_laws.proofs.Keys.{same_key}

@@ -13,17 +13,17 @@ use Rattle.lc_base.specs.declared.answer.Kind.TheVariants as kinds
 use Rattle.lc_base.specs.declared.answer.Query.{Query}
 use Rattle.lc_base.specs.declared.answer.Answer.{Answer}
 use Rattle.lc_base.specs.declared.answer.Answer.TheVariants as answers
-use Rattle.merkle_tree.specs.Tree.{leaf_text, Climb}
-use Rattle.merkle_tree.specs.Climbing.{bytes_of, top_of}
-use Rattle.merkle_tree.specs.Levels.{digest_of}
-use Rattle.prov_entry.specs.declared.entry.Link.{Link}
-use Rattle.prov_entry.specs.declared.entry.Header.{Header}
-use Rattle.prov_entry.specs.declared.entry.BodyDep.{BodyDep}
-use Rattle.prov_entry.specs.declared.entry.Body.{Body}
-use Rattle.prov_entry.specs.declared.entry.Leaf.{Leaf}
-use Rattle.prov_entry.specs.Spelling.{key_or_empty, leaf_bytes, header_text, body_text}
-use Rattle.prov_entry.specs.Spelling.{text_of_root}
-use Rattle.prov_entry.specs.ForwardLists.{uses_digest}
+use Rattle.proof_codec.specs.merkle_tree.Tree.{leaf_text, Climb}
+use Rattle.proof_codec.specs.merkle_tree.Climbing.{bytes_of, top_of}
+use Rattle.proof_codec.specs.merkle_tree.Levels.{digest_of}
+use Rattle.root_laws.specs.prov_entry.declared.entry.Link.{Link}
+use Rattle.root_laws.specs.prov_entry.declared.entry.Header.{Header}
+use Rattle.root_laws.specs.prov_entry.declared.entry.BodyDep.{BodyDep}
+use Rattle.root_laws.specs.prov_entry.declared.entry.Body.{Body}
+use Rattle.root_laws.specs.prov_entry.declared.entry.Leaf.{Leaf}
+use Rattle.root_laws.specs.prov_entry.Spelling.{key_or_empty, leaf_bytes, header_text, body_text}
+use Rattle.root_laws.specs.prov_entry.Spelling.{text_of_root}
+use Rattle.root_laws.specs.prov_entry.ForwardLists.{uses_digest}
 use Rattle.root_laws.specs.Root.{is_below}
 use Rattle.proof_codec.specs.declared.proof.LeafProof.{LeafProof}
 use Rattle.proof_codec.specs.declared.proof.Proof.{Proof}

@@ -4,10 +4,10 @@ use Rattle.std.specs.List.{flat_map}
 use Rattle.lc_base.specs.declared.digest.Digest.{Digest}
 use Rattle.lc_base.specs.declared.row.Row.{Row}
 use Rattle.lc_base.specs.History.{up_to, uses}
-use Rattle.merkle_tree.specs.Tree.{leaf_text, node_texts}
-use Rattle.prov_entry.specs.declared.entry.Leaf.{Leaf}
-use Rattle.prov_entry.specs.Spelling.{leaf_bytes, header_text, body_text}
-use Rattle.prov_entry.specs.ForwardLists.{start_text}
+use Rattle.proof_codec.specs.merkle_tree.Tree.{leaf_text, node_texts}
+use Rattle.root_laws.specs.prov_entry.declared.entry.Leaf.{Leaf}
+use Rattle.root_laws.specs.prov_entry.Spelling.{leaf_bytes, header_text, body_text}
+use Rattle.root_laws.specs.prov_entry.ForwardLists.{start_text}
 use Rattle.root_laws.specs.Naming.{header_of, body_of}
 use Rattle.root_laws.specs.Root.{leaves, root_text, digest_at}
 use Rattle.proof_checks.specs.ProofTexts.{joined_texts, texts_of_uses}

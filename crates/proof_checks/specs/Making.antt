@@ -4,7 +4,7 @@ use Rattle.std.specs.Prelude.{◌≡◌, ◌<◌, ◌≤◌, true, ℕ, List, le
 use Rattle.std.specs.Prelude.{slice_index_or, Option, Some, None, Ok}
 use Rattle.std.specs.List.{find, filter_map, position_or_len}
 use Rattle.std.specs.Option.{option_map}
-use Rattle.lc_names.specs.KeyBytes.{IsKey}
+use Rattle.lc_base.specs.KeyBytes.{IsKey}
 use Rattle.lc_base.specs.declared.digest.Digest.{Digest}
 use Rattle.lc_base.specs.declared.row.Row.{Row}
 use Rattle.lc_base.specs.declared.row.Dep.{Dep}
@@ -13,10 +13,10 @@ use Rattle.lc_base.specs.declared.answer.Kind.TheVariants.{Hist, Back, Fwd}
 use Rattle.lc_base.specs.declared.answer.Query.{Query}
 use Rattle.lc_base.specs.History.{up_to, latest, uses, scan}
 use Rattle.skip_links.specs.Paths.{path}
-use Rattle.merkle_tree.specs.Tree.{audit_path}
-use Rattle.merkle_tree.specs.Climbing.{bytes_of}
-use Rattle.prov_entry.specs.declared.entry.Header.{Header}
-use Rattle.prov_entry.specs.declared.entry.Leaf.{Leaf}
+use Rattle.proof_codec.specs.merkle_tree.Tree.{audit_path}
+use Rattle.proof_codec.specs.merkle_tree.Climbing.{bytes_of}
+use Rattle.root_laws.specs.prov_entry.declared.entry.Header.{Header}
+use Rattle.root_laws.specs.prov_entry.declared.entry.Leaf.{Leaf}
 use Rattle.root_laws.specs.Naming.{header_of, body_of}
 use Rattle.root_laws.specs.Root.{keys_of, sentinel, leaves, digest_at, root_of}
 use Rattle.root_laws.specs.WalkLaws.{is_version_in}

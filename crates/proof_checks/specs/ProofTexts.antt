@@ -2,12 +2,12 @@
 use Rattle.std.specs.Prelude.{ℕ, List, [], ◌∷◌, ◌++◌, map, Option, Some, None}
 use Rattle.std.specs.List.{flat_map}
 use Rattle.lc_base.specs.declared.row.Dep.{Dep}
-use Rattle.merkle_tree.specs.Tree.{leaf_text, climb_texts_to}
-use Rattle.merkle_tree.specs.Chains.{chain_texts}
-use Rattle.merkle_tree.specs.declared.limits.TheConstants.{MAX_HEIGHT}
-use Rattle.prov_entry.specs.declared.entry.Body.{Body}
-use Rattle.prov_entry.specs.Spelling.{leaf_bytes, header_text, body_text}
-use Rattle.prov_entry.specs.ForwardLists.{start_text, no_uses, use_text}
+use Rattle.proof_codec.specs.merkle_tree.Tree.{leaf_text, climb_texts_to}
+use Rattle.proof_codec.specs.merkle_tree.Chains.{chain_texts}
+use Rattle.proof_codec.specs.merkle_tree.declared.limits.TheConstants.{MAX_HEIGHT}
+use Rattle.root_laws.specs.prov_entry.declared.entry.Body.{Body}
+use Rattle.root_laws.specs.prov_entry.Spelling.{leaf_bytes, header_text, body_text}
+use Rattle.root_laws.specs.prov_entry.ForwardLists.{start_text, no_uses, use_text}
 use Rattle.proof_codec.specs.declared.proof.LeafProof.{LeafProof}
 use Rattle.proof_codec.specs.declared.proof.Proof.{Proof}
 use Rattle.proof_checks.specs.Checks.{climb_of, root_text_of}

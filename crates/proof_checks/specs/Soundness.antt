@@ -5,7 +5,7 @@ use Rattle.lc_base.specs.declared.row.Row.{Row}
 use Rattle.lc_base.specs.declared.answer.Query.{Query}
 use Rattle.lc_base.specs.declared.answer.Answer.{Answer}
 use Rattle.lc_base.specs.History.{up_to, latest, scan}
-use Rattle.merkle_tree.specs.Clash.{Clash}
+use Rattle.proof_codec.specs.merkle_tree.Clash.{Clash}
 use Rattle.root_laws.specs.Naming.{header_of, body_of}
 use Rattle.root_laws.specs.Root.{leaves, root_of}
 use Rattle.root_laws.specs.TypedLedger.{IsTypedHistory}

@@ -8,12 +8,13 @@ use Rattle.lc_base.specs.declared.row.Dep.{Dep}
 use Rattle.lc_base.specs.declared.answer.Kind.{Kind}
 use Rattle.lc_base.specs.declared.answer.Kind.TheVariants.{Hist, Back, Fwd}
 use Rattle.lc_base.specs.declared.answer.Query.{Query}
-use Rattle.byte_fields.specs.Reading.{Field, bind_at, ret_at, then_at, made_at, ruled_at, items_at}
-use Rattle.byte_fields.specs.Reading.{number_at, byte_at, bytes_at, string_at, key_at}
-use Rattle.prov_entry.specs.merkle_tree.Tree.{audit_length}
-use Rattle.prov_entry.specs.declared.entry.Leaf.{Leaf}
-use Rattle.prov_entry.specs.declared.entry.Header.{Header}
-use Rattle.prov_entry.specs.declared.entry.Body.{Body}
+use Rattle.entry_views.specs.byte_fields.Reading.{Field, bind_at, ret_at, then_at, made_at}
+use Rattle.entry_views.specs.byte_fields.Reading.{ruled_at, items_at}
+use Rattle.entry_views.specs.byte_fields.Reading.{number_at, byte_at, bytes_at, string_at, key_at}
+use Rattle.merkle_tree.specs.Tree.{audit_length}
+use Rattle.entry_views.specs.prov_entry.declared.entry.Leaf.{Leaf}
+use Rattle.entry_views.specs.prov_entry.declared.entry.Header.{Header}
+use Rattle.entry_views.specs.prov_entry.declared.entry.Body.{Body}
 use Rattle.entry_views.specs.Reading.{digest_at, use_at, next_at, leaf_of, header_at, body_at}
 use Rattle.proof_codec.specs.declared.limits.TheConstants.{MAGIC}
 use Rattle.proof_codec.specs.declared.proof.LeafProof.{LeafProof}

@@ -4,18 +4,19 @@ use Rattle.std.specs.Prelude.{◌≡◌, ℕ, ◌^◌, ◌<◌, ◌≤◌, ◌==
 use Rattle.std.specs.Prelude.{List, [], ◌∷◌, ◌++◌, length, Option, Some, None}
 use Rattle.std.specs.List.{flat_map, AllByRecursion}
 use Rattle.std.specs.Int.{w32, to_be_bytes}
-use Rattle.lc_names.specs.KeyBytes.{IsKey}
+use Rattle.lc_base.specs.KeyBytes.{IsKey}
 use Rattle.lc_base.specs.declared.digest.Digest.{Digest}
 use Rattle.lc_base.specs.declared.row.Dep.{Dep}
 use Rattle.lc_base.specs.declared.answer.Kind.{Kind}
 use Rattle.lc_base.specs.declared.answer.Kind.TheVariants.{Hist, Back, Fwd}
 use Rattle.lc_base.specs.declared.answer.Query.{Query}
-use Rattle.byte_fields.specs.Spelling.{string_fields}
-use Rattle.prov_entry.specs.merkle_tree.Tree.{audit_length}
-use Rattle.prov_entry.specs.declared.entry.Header.{Header}
-use Rattle.prov_entry.specs.Spelling.{IsHeader, IsBody, IsLeaf, header_fields, body_fields}
-use Rattle.prov_entry.specs.Spelling.{leaf_fields}
-use Rattle.prov_entry.specs.ForwardLists.{use_fields}
+use Rattle.entry_views.specs.byte_fields.Spelling.{string_fields}
+use Rattle.merkle_tree.specs.Tree.{audit_length}
+use Rattle.entry_views.specs.prov_entry.declared.entry.Header.{Header}
+use Rattle.entry_views.specs.prov_entry.Spelling.{IsHeader, IsBody, IsLeaf, header_fields}
+use Rattle.entry_views.specs.prov_entry.Spelling.{body_fields}
+use Rattle.entry_views.specs.prov_entry.Spelling.{leaf_fields}
+use Rattle.entry_views.specs.prov_entry.ForwardLists.{use_fields}
 use Rattle.proof_codec.specs.declared.limits.TheConstants.{MAGIC}
 use Rattle.proof_codec.specs.declared.proof.LeafProof.{LeafProof}
 use Rattle.proof_codec.specs.declared.proof.Proof.{Proof}

@@ -4,7 +4,7 @@ use Rattle.std.proofs.lemmas.List.{take_more, append-nil, map-append}
 use Rattle.std.proofs.lemmas.Option.{slice_get-get_or}
 use Rattle.lc_base.specs.declared.row.Dep.{Dep}
 use Rattle.prov_entry.specs.declared.entry.BodyDep.{BodyDep}
-use Rattle.proof_verifier.specs.proof_checks.Checks.{dep_of}
+use Rattle.proof_checks.specs.Checks.{dep_of}
 use Rattle.proof_commands.specs.Copying.{with_dep}
 
 -- One more dependency is copied.

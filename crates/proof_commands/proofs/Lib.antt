@@ -1,3 +1,4 @@
 pub mod Copying
 pub mod Verified
-pub use Rattle.proof_verifier.proofs.proof_views as proof_views
+pub mod Traced
+pub mod Ranged

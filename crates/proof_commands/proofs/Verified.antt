@@ -10,13 +10,13 @@ use Rattle.hex.proofs.HexLemmas.{decode_of-odd, decode_of-ok, decode_of-err}
 use Rattle.lc_base.specs.declared.answer.Query.{Query}
 use Rattle.byte_fields.specs.Prefixes.{IsLongestPrefix}
 use Rattle.byte_fields.specs.Spelling.{IsBytes}
-use Rattle.proof_verifier.specs.proof_codec.declared.proof.Proof.{Proof}
-use Rattle.proof_verifier.specs.proof_codec.Spelling.{IsProof, proof_fields}
-use Rattle.proof_verifier.specs.proof_views.Viewing.{Spells, proof_in}
-use Rattle.proof_verifier.specs.proof_views.declared.proof_view.ViewError.{ViewError}
-use Rattle.proof_verifier.specs.proof_views.declared.proof_view.ViewError.TheVariants as views
-use Rattle.proof_verifier.proofs.proof_views.Viewed.{is_read, found_this, fault_this}
-use Rattle.proof_verifier.specs.Answering.{answer_of_proof, verdict_on}
+use Rattle.proof_codec.specs.declared.proof.Proof.{Proof}
+use Rattle.proof_codec.specs.Spelling.{IsProof, proof_fields}
+use Rattle.proof_codec.specs.Viewing.{Spells, proof_in}
+use Rattle.proof_codec.specs.declared.proof_view.ViewError.{ViewError}
+use Rattle.proof_codec.specs.declared.proof_view.ViewError.TheVariants as views
+use Rattle.proof_codec.proofs.Viewed.{is_read, found_this, fault_this}
+use Rattle.trace_verifier.specs.proof_verifier.Answering.{answer_of_proof, verdict_on}
 use Rattle.proof_commands.specs.declared.verification.Verification.{Verification}
 use Rattle.proof_commands.specs.declared.verification.Verification.TheVariants.{BadHex}
 use Rattle.proof_commands.specs.Verifying.{hex_text, of_verdict, hex_fault, bytes_or_fault, of_decoded, verification, IsFirstNoDigit, IsVerification, OddDigits, NoDigit, NoProof, Judged}

@@ -1,5 +1,7 @@
 pub mod Lines
 pub mod Verifying
 pub mod Copying
-pub use Rattle.proof_verifier.specs as proof_verifier
-pub use Rattle.proof_verifier.specs.proof_views as proof_views
+pub mod TraceLines
+pub mod TraceVerifying
+pub mod RangeLines
+pub mod RangeVerifying

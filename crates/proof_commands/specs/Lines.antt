@@ -1,8 +1,8 @@
 -- The line that is printed for a proof that isn't accepted.
 use Rattle.std.specs.Prelude.{ℕ, List, [], ◌∷◌, ◌++◌, codes, decimal}
 use Rattle.hex.specs.Hex.{encode_lower}
-use Rattle.proof_verifier.specs.proof_checks.declared.reject.Reject.{Reject}
-use Rattle.proof_verifier.specs.proof_checks.declared.reject.Reject.TheVariants as rejects
+use Rattle.proof_checks.specs.declared.reject.Reject.{Reject}
+use Rattle.proof_checks.specs.declared.reject.Reject.TheVariants as rejects
 
 -- The words for the check that failed.
 abbrev pub reject_text : Reject → List ℕ

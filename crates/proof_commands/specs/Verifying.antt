@@ -7,13 +7,13 @@ use Rattle.hex.specs.Hex.{decode_of, is_hex_digit}
 use Rattle.hex.specs.declared.error.FromHexError.{FromHexError}
 use Rattle.hex.specs.declared.error.FromHexError.TheVariants.{InvalidHexCharacter}
 use Rattle.byte_fields.specs.Prefixes.{IsLongestPrefix}
-use Rattle.proof_verifier.specs.proof_codec.declared.proof.Proof.{Proof}
-use Rattle.proof_verifier.specs.proof_codec.Spelling.{IsProof, proof_fields}
-use Rattle.proof_verifier.specs.proof_views.Viewing.{Spells}
-use Rattle.proof_verifier.specs.proof_checks.Checks.{verdict}
-use Rattle.proof_verifier.specs.proof_checks.declared.reject.Reject.{Reject}
-use Rattle.proof_verifier.specs.proof_checks.declared.reject.Reject.TheVariants.{Malformed}
-use Rattle.proof_verifier.specs.Answering.{verdict_on}
+use Rattle.proof_codec.specs.declared.proof.Proof.{Proof}
+use Rattle.proof_codec.specs.Spelling.{IsProof, proof_fields}
+use Rattle.proof_codec.specs.Viewing.{Spells}
+use Rattle.proof_checks.specs.Checks.{verdict}
+use Rattle.proof_checks.specs.declared.reject.Reject.{Reject}
+use Rattle.proof_checks.specs.declared.reject.Reject.TheVariants.{Malformed}
+use Rattle.trace_verifier.specs.proof_verifier.Answering.{verdict_on}
 use Rattle.proof_commands.specs.declared.verification.HexFault.{HexFault}
 use Rattle.proof_commands.specs.declared.verification.HexFault.TheVariants.{Odd, At}
 use Rattle.proof_commands.specs.declared.verification.Verification.{Verification}

@@ -3,16 +3,17 @@
 ghost use Rattle.std.specs.Prelude.{◌≡◌, map, IfOk, OnOk};
 ghost use Rattle.lc_base.specs.TextBytes.{IsText};
 ghost use Rattle.byte_fields.specs.{Reader.{value_seen}, Spelling.{IsValue}};
-ghost use Rattle.proof_verifier.specs.proof_checks.Checks.{dep_of};
-ghost use Rattle.proof_verifier.specs.Answering.{answer_seen, HasValue};
+ghost use Rattle.proof_checks.specs.Checks.{dep_of};
+ghost use Rattle.trace_verifier.specs.proof_verifier.Answering.{answer_seen, HasValue};
 ghost use Rattle.proof_commands.specs.Copying.{with_dep};
 
 use byte_fields::ValueView;
 use entry_views::BodyDepView;
 use lc_base::{Answer, Dep, DepList, Memory, Text, TextError, Value};
-use proof_verifier::{Found, UseView};
+use proof_codec::UseView;
 use prov_entry::BodyDep;
 use std::alloc::Global;
+use trace_verifier::Found;
 
 /// Copies the bytes of a text.
 fn text_of(alloc: Global, bytes: &[u8]) -> Result<Text, Memory>

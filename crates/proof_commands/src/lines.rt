@@ -6,7 +6,7 @@ ghost use Rattle.proof_commands.specs.Lines.{reject_text, rejected_line};
 
 use digest_kit::digest_text;
 use lc_base::{Bytes, Digest, Memory};
-use proof_verifier::Reject;
+use proof_checks::Reject;
 use std::alloc::{AllocError, Global};
 
 fn link_text(alloc: Global, step: u32, computed: &Digest) -> Result<String, AllocError>

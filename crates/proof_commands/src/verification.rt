@@ -1,7 +1,7 @@
 //! An input is either not hex, or a proof that is accepted or rejected.
 
 use lc_base::Answer;
-use proof_verifier::Reject;
+use proof_checks::Reject;
 
 /// Why a text isn't hex.
 #[derive(Clone, Copy)]

@@ -1,16 +1,22 @@
 //! An input is decoded from hex, then read and checked as a proof.
 
 ghost use Rattle.std.specs.Prelude.{◌≡◌, IfOk};
-ghost use Rattle.proof_verifier.specs.Answering.{verdict_on};
+ghost use Rattle.trace_verifier.specs.proof_verifier.Answering.{verdict_on};
 ghost use Rattle.hex.specs.Hex.{decode_of};
-ghost use Rattle.proof_commands.specs.Verifying.{IsVerification, hex_text, of_verdict, bytes_or_fault, verification};
+ghost use Rattle.proof_commands.specs.Verifying.{
+  IsVerification,
+  hex_text,
+  of_verdict,
+  bytes_or_fault,
+  verification,
+};
 
 use crate::answering::answer_of;
 use crate::verification::{HexFault, Verification};
 use hex::FromHexError;
 use lc_base::{Bytes, Digest, Memory, Query};
-use proof_verifier::verify;
 use std::alloc::Global;
+use trace_verifier::verify;
 
 /// The input without the line end that it may end with.
 fn hex_text(input: &[u8]) -> &[u8]

@@ -12,12 +12,12 @@ use Rattle.lc_base.specs.declared.answer.Query.{Query}
 use Rattle.prov_entry.specs.declared.entry.Header.{Header}
 use Rattle.prov_entry.specs.declared.entry.Body.{Body}
 use Rattle.prov_entry.specs.Spelling.{IsBody}
-use Rattle.root_laws.specs.Root.{root_of}
-use Rattle.proof_codec.specs.declared.proof.Proof.{Proof}
-use Rattle.proof_codec.specs.Spelling.{IsProof, IsIfAny, last_of}
-use Rattle.proof_views.specs.Viewing.{proof_in, told_at}
-use Rattle.proof_views.specs.declared.proof_view.ViewError.{ViewError}
-use Rattle.proof_views.specs.declared.proof_view.ViewError.TheVariants as views
+use Rattle.proof_checks.specs.root_laws.Root.{root_of}
+use Rattle.proof_checks.specs.proof_codec.declared.proof.Proof.{Proof}
+use Rattle.proof_checks.specs.proof_codec.Spelling.{IsProof, IsIfAny, last_of}
+use Rattle.proof_checks.specs.proof_codec.Viewing.{proof_in, told_at}
+use Rattle.proof_checks.specs.proof_codec.declared.proof_view.ViewError.{ViewError}
+use Rattle.proof_checks.specs.proof_codec.declared.proof_view.ViewError.TheVariants as views
 use Rattle.proof_checks.specs.declared.reject.Reject.{Reject}
 use Rattle.proof_checks.specs.Checks.{judgement, verdict, query_fault, fault_in, answer_in}
 use Rattle.proof_checks.specs.Checks.{answer_from, answer_by}

@@ -9,10 +9,10 @@ use Rattle.lc_base.specs.declared.answer.Answer.{Answer}
 use Rattle.lc_base.specs.declared.answer.Answer.TheVariants as answers
 use Rattle.byte_fields.specs.Reader.{value_seen}
 use Rattle.byte_fields.specs.Spelling.{IsValue}
-use Rattle.proof_codec.specs.declared.proof.Proof.{Proof}
-use Rattle.proof_views.specs.Viewing.{proof_in}
-use Rattle.proof_views.specs.declared.proof_view.ViewError.{ViewError}
-use Rattle.proof_views.specs.declared.proof_view.ViewError.TheVariants as views
+use Rattle.proof_checks.specs.proof_codec.declared.proof.Proof.{Proof}
+use Rattle.proof_checks.specs.proof_codec.Viewing.{proof_in}
+use Rattle.proof_checks.specs.proof_codec.declared.proof_view.ViewError.{ViewError}
+use Rattle.proof_checks.specs.proof_codec.declared.proof_view.ViewError.TheVariants as views
 use Rattle.proof_checks.specs.declared.reject.Reject.{Reject}
 use Rattle.proof_checks.specs.declared.reject.Reject.TheVariants.{Malformed}
 use Rattle.proof_checks.specs.Checks.{after, verdict, dep_of, fault_of_body, fault_of_uses}

@@ -10,10 +10,8 @@ ghost use Rattle.proof_verifier.specs.Answering.{answer_seen, fault_told, versio
 use crate::found::Found;
 use crate::hashing::body_digest;
 use crate::path::ToldHeader;
-use entry_views::{BodyView, HeaderView};
 use lc_base::{Digest, Kind};
-use proof_checks::{Claim, Reject};
-use proof_views::UseView;
+use proof_checks::{BodyView, Claim, HeaderView, Reject, UseView};
 use prov_entry::{no_uses, with_use};
 
 /// What is wrong with a body that a header names.

@@ -1,7 +1,7 @@
 //! What an accepted proof answers, borrowed from the bytes of the proof.
 
-use entry_views::{BodyDepView, ValueView};
-use proof_views::UseView;
+use byte_fields::ValueView;
+use proof_checks::{BodyDepView, UseView};
 
 /// What an accepted proof answers. Texts, dependencies, and uses are read in place, from its bytes.
 #[derive(Drop)]

@@ -6,10 +6,8 @@ ghost use Rattle.proof_checks.specs.Checks.{next_link, claim_of_header, header_f
 ghost use Rattle.proof_verifier.specs.Walking.{higher, walk_end, HeaderClaim};
 
 use crate::hashing::header_digest;
-use entry_views::{HeaderView, LinkView};
 use lc_base::Key;
-use proof_checks::{Claim, Reject};
-use proof_views::HeadersView;
+use proof_checks::{Claim, HeaderView, HeadersView, LinkView, Reject};
 use prov_entry::Link;
 use std::marker::Model;
 

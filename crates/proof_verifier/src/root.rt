@@ -9,7 +9,7 @@ ghost use Rattle.proof_checks.specs.Checks.{root_text_of};
 use crate::hashing::leaf_digest;
 use lc_base::Digest;
 use merkle_tree::{MAX_HEIGHT, root_from_leaf};
-use proof_views::{AuditView, LeafProofView};
+use proof_checks::{AuditView, LeafProofView};
 use prov_entry::root_digest;
 
 /// The greatest number of hashes that an audit path can have.

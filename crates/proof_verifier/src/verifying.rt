@@ -1,35 +1,51 @@
 //! The checks of a proof run in a fixed order: the query, the root, the leaf, the headers, the
 //! body, the uses.
 
-ghost use Rattle.std.specs.Prelude.{◌≡◌, ◌<◌, ◌^◌, ℕ, List, Err, true, is_ok, IfOk, IfErr, IsErrAnd, IsSomeAnd};
+ghost use Rattle.std.specs.Prelude.{
+  ◌≡◌,
+  ◌<◌,
+  ◌^◌,
+  ℕ,
+  List,
+  Err,
+  true,
+  is_ok,
+  IfOk,
+  IfErr,
+  IsErrAnd,
+  IsSomeAnd,
+};
 ghost use Rattle.lc_base.specs.{
   Answers.{Answers},
   declared.digest.Digest.{Digest as DigestValue},
   declared.row.Row.{Row},
 };
-ghost use Rattle.root_laws.specs.Root.{root_of};
-ghost use Rattle.proof_checks.specs.root_laws.TypedLedger.{IsTypedHistory};
-ghost use Rattle.byte_fields.specs.Prefixes.{IsLongestPrefix};
-ghost use Rattle.proof_codec.specs.{
-  Spelling.{IsProof, proof_fields},
-  declared.proof.Proof.{Proof as ProofValue},
-};
-ghost use Rattle.proof_views.specs.Viewing.{Spells};
 ghost use Rattle.proof_checks.specs.{
+  root_laws.Root.{root_of},
+  root_laws.TypedLedger.{IsTypedHistory},
+  proof_codec.Spelling.{IsProof, proof_fields},
+  proof_codec.declared.proof.Proof.{Proof as ProofValue},
+  proof_codec.Viewing.{Spells},
   Checks.{is_same_query, judgement, verdict},
   ProofTexts.{proof_texts},
   Soundness.{AnswersOrClashes},
 };
-ghost use Rattle.proof_verifier.specs.Answering.{answer_seen, fault_told, HasValue, malformed_at, fault_of_view, verdict_on};
+ghost use Rattle.byte_fields.specs.Prefixes.{IsLongestPrefix};
+ghost use Rattle.proof_verifier.specs.Answering.{
+  answer_seen,
+  fault_told,
+  HasValue,
+  malformed_at,
+  fault_of_view,
+  verdict_on,
+};
 
 use crate::answers::answer;
 use crate::found::Found;
 use crate::leaf::{claim_of_leaf, expected_first, fault_of_leaf};
 use crate::path::{Lookup, walk};
 use lc_base::{Digest, Query};
-use proof_checks::Reject;
-use proof_codec::kind_byte;
-use proof_views::{ProofView, ViewError, view};
+use proof_checks::{ProofView, Reject, ViewError, kind_byte, view};
 
 /// Whether the proof's own query is the one that is asked.
 fn is_same_query(asked: &Query, own: &Query) -> bool

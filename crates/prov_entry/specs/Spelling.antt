@@ -3,7 +3,7 @@
 use Rattle.std.specs.Prelude.{◌≡◌, ℕ, ◌^◌, ◌<◌, ◌≤◌, List, [], ◌∷◌, ◌++◌, length, Option, Some, None}
 use Rattle.std.specs.List.{concat, flat_map, AllByRecursion}
 use Rattle.std.specs.Int.{w16, w32, w64, to_be_bytes}
-use Rattle.lc_base.specs.lc_names.KeyBytes.{IsKey}
+use Rattle.lc_base.specs.KeyBytes.{IsKey}
 use Rattle.lc_base.specs.declared.limits.TheConstants.{MAX_DEPS}
 use Rattle.byte_fields.specs.Spelling.{string_fields, value_fields, IsValue}
 use Rattle.prov_entry.specs.declared.limits.TheConstants.{HEADER, BODY, ROOT, MAX_LINKS}

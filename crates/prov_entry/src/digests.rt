@@ -6,7 +6,7 @@ ghost use Rattle.std.specs.{
   List.{concat, flat_map, AllByRecursion},
 };
 ghost use Rattle.sha2.specs.Sha256.{sha256};
-ghost use Rattle.lc_base.specs.lc_names.KeyBytes.{IsKey};
+ghost use Rattle.lc_base.specs.KeyBytes.{IsKey};
 ghost use Rattle.byte_fields.specs.Spelling.{string_fields};
 ghost use Rattle.merkle_tree.specs.Tree.{leaf_text};
 ghost use Rattle.prov_entry.specs.{

@@ -8,7 +8,7 @@ use Rattle.std.proofs.lemmas.Option.{slice_get_within, get_or_from_slice_get, sa
 use Rattle.lc_base.specs.declared.row.Row.{Row}
 use Rattle.lc_base.specs.History.{IsLawful}
 use Rattle.entry_store.specs.declared.entry.EntryId.{EntryId}
-use Rattle.lineage_store.specs.OnPath.{version_of_entry, version_in, AreEntriesIn}
+use Rattle.prov_query.specs.lineage_index.OnPath.{version_of_entry, version_in, AreEntriesIn}
 use Rattle.lc_base.specs.declared.row.Dep.{Dep}
 use Rattle.prov_entry.specs.declared.entry.Header.{Header}
 use Rattle.prov_entry.specs.Spelling.{header_fields}
@@ -17,7 +17,7 @@ use Rattle.proof_codec.specs.Spelling.{fields_if_any}
 use Rattle.proof_checks.specs.Making.{header_in}
 use Rattle.proof_checks.proofs.MadeWalks.{header_found}
 use Rattle.answer_proof.proofs.Walks.{row_in}
-use Rattle.lineage_range.specs.Finding.{AreRowsAt}
+use Rattle.range_proof.specs.Finding.{AreRowsAt}
 use Rattle.range_proof.specs.Parts.{fields_at, header_fields_at}
 
 first_same : {A : Type 0} (x y : A) (xs ys : List A) → x ∷ xs ≡ y ∷ ys → x ≡ y

@@ -1,7 +1,7 @@
 -- The leaf that is found covers the key, so the leaf proof is the one that is made.
 use Rattle.std.proofs.Common.{◌≡◌, ◌∙◌, ℕ, ◌<◌, List, length, slice_get, Some, refl, ap, subst}
 use Rattle.std.proofs.Common.{arith}
-use Rattle.lc_base.specs.lc_names.KeyBytes.{IsKey}
+use Rattle.lc_base.specs.KeyBytes.{IsKey}
 use Rattle.lc_base.specs.declared.digest.Digest.{Digest}
 use Rattle.lc_base.specs.declared.row.Row.{Row}
 use Rattle.merkle_tree.specs.Tree.{audit_path}

@@ -1,3 +1,7 @@
+pub mod Links
+pub mod Walking
+pub mod Counts
+pub mod Told
 pub mod Found
 pub mod Written
 pub mod Leafed

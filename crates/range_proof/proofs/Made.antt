@@ -13,13 +13,13 @@ use Rattle.std.proofs.lemmas.List.{get_or-take, length-map, length-append}
 use Rattle.std.proofs.lemmas.List.Concat.{flat_map-append}
 use Rattle.std.proofs.lemmas.List.Elements.{All-from_recursion}
 use Rattle.byte_fields.proofs.Laws.{concat-append}
-use Rattle.lc_base.specs.lc_names.KeyBytes.{IsKey}
+use Rattle.lc_base.specs.KeyBytes.{IsKey}
 use Rattle.lc_base.specs.declared.digest.Digest.{Digest}
 use Rattle.lc_base.specs.declared.row.Row.{Row}
 use Rattle.lc_base.specs.History.{IsLawful, up_to}
 use Rattle.skip_links.specs.Paths.{path}
 use Rattle.entry_store.specs.declared.entry.EntryId.{EntryId}
-use Rattle.lineage_store.specs.OnPath.{AreEntriesIn}
+use Rattle.prov_query.specs.lineage_index.OnPath.{AreEntriesIn}
 use Rattle.prov_entry.specs.declared.entry.Body.{Body}
 use Rattle.prov_entry.specs.Spelling.{header_fields, body_fields}
 use Rattle.root_laws.specs.Naming.{header_of, body_of}
@@ -31,13 +31,13 @@ use Rattle.proof_codec.specs.Spelling.{leaf_proof_fields}
 use Rattle.proof_codec.proofs.Proofs.{short_audit}
 use Rattle.proof_codec.proofs.Written.{written_three}
 use Rattle.proof_checks.specs.Making.{path_headers, made_leaf}
-use Rattle.merkle_dag.specs.Ledger.{Ledger}
-use Rattle.range_checks.specs.declared.range_proof.RangeProof.{RangeProof}
-use Rattle.range_checks.specs.Making.{rows_back, range_headers, range_of, made_range}
-use Rattle.range_checks.specs.Making.{MadeRangesAreProofs, MadeRangesAreAccepted}
-use Rattle.range_checks.specs.RangeTexts.{IsRangeProof}
-use Rattle.range_checks.specs.Spelling.{front_fields, headers_fields, range_fields}
-use Rattle.lineage_range.specs.Finding.{AreRowsAt}
+use Rattle.prov_query.specs.merkle_dag.Ledger.{Ledger}
+use Rattle.proof_checks.specs.declared.range_proof.RangeProof.{RangeProof}
+use Rattle.proof_checks.specs.RangeMaking.{rows_back, range_headers, range_of, made_range}
+use Rattle.proof_checks.specs.RangeMaking.{MadeRangesAreProofs, MadeRangesAreAccepted}
+use Rattle.proof_checks.specs.RangeTexts.{IsRangeProof}
+use Rattle.proof_checks.specs.RangeSpelling.{front_fields, headers_fields, range_fields}
+use Rattle.range_proof.specs.Finding.{AreRowsAt}
 use Rattle.range_proof.specs.Parts.{AreWithin, AreEntriesWithin, header_fields_at, body_fields_at}
 use Rattle.range_proof.specs.Parts.{AddsBodies}
 use Rattle.range_proof.specs.Proving.{ShowsRange, IsButForBodies, fields_before_bodies}

@@ -3,16 +3,16 @@ use Rattle.std.specs.Prelude.{◌≡◌, ◌++◌, ℕ, List, Result, Ok}
 use Rattle.lc_base.specs.declared.answer.Kind.TheVariants.{Hist}
 use Rattle.lc_base.specs.declared.answer.Query.{Query}
 use Rattle.lc_base.specs.History.{up_to}
-use Rattle.merkle_dag.specs.Ledger.{Ledger}
-use Rattle.merkle_dag.specs.root_laws.Root.{root_of}
-use Rattle.merkle_dag.specs.declared.query_error.QueryError.{QueryError}
+use Rattle.prov_query.specs.merkle_dag.Ledger.{Ledger}
+use Rattle.root_laws.specs.Root.{root_of}
+use Rattle.prov_query.specs.merkle_dag.declared.query_error.QueryError.{QueryError}
 use Rattle.prov_entry.specs.declared.entry.Body.{Body}
 use Rattle.proof_codec.specs.Spelling.{leaf_proof_fields}
 use Rattle.answer_proof.specs.Proving.{IsRefusedBeyond}
-use Rattle.row_ranges.specs.Ranges.{between}
-use Rattle.range_checks.specs.declared.range_proof.RangeProof.{RangeProof}
-use Rattle.range_checks.specs.Checks.{range_verdict}
-use Rattle.range_checks.specs.Spelling.{front_fields, headers_fields, SpellsRange}
+use Rattle.root_laws.specs.Ranges.{between}
+use Rattle.proof_checks.specs.declared.range_proof.RangeProof.{RangeProof}
+use Rattle.proof_checks.specs.RangeChecks.{range_verdict}
+use Rattle.proof_checks.specs.RangeSpelling.{front_fields, headers_fields, SpellsRange}
 
 -- The lookup of the last version up to the last block. A range goes beyond where this lookup does.
 abbrev pub end_query : List ℕ → ℕ → Query

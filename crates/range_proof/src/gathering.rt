@@ -4,24 +4,26 @@ ghost use Rattle.std.specs.{
   Prelude.{◌≡◌, ◌≤◌, ◌+◌, ◌++◌, true, Some, drop, length, slice_get, IfOk, OnOk, IsErrOf},
   List.{concat},
 };
-ghost use Rattle.scratch_model.specs.Scratch.{is_known};
-ghost use Rattle.merkle_dag.specs.Lineage.{AgreesWith, LeavesLineage};
-ghost use Rattle.range_checks.specs.{
-  Making.{rows_back, made_range},
-  Spelling.{range_fields},
+ghost use Rattle.lc_io.specs.Scratch.{is_known};
+ghost use Rattle.prov_query.specs.merkle_dag.Lineage.{AgreesWith, LeavesLineage};
+ghost use Rattle.proof_checks.specs.{
+  RangeMaking.{rows_back, made_range},
+  RangeSpelling.{range_fields},
 };
-ghost use Rattle.lineage_range.specs.Finding.{AreRowsAt};
-ghost use Rattle.range_proof.specs.Proving.{IsButForBodies, fields_before_bodies};
+ghost use Rattle.range_proof.specs.{
+  Finding.{AreRowsAt},
+  Proving.{IsButForBodies, fields_before_bodies},
+};
 
 use crate::asked::Asked;
+use crate::between::indexes_between;
 use crate::leaf::leaf_proof_of;
 use crate::writing::{put_bodies, put_front, put_headers};
 use lc_base::{Bytes, HostError, Memory};
-use lineage_range::{Steps, indexes_between};
-use merkle_dag::Lineage;
+use lc_io::Scratch;
+use proof_checks::made_ranges_are_proofs;
 use proof_codec::put_leaf_proof;
-use range_checks::made_ranges_are_proofs;
-use scratch_model::Scratch;
+use prov_query::{Lineage, Steps};
 use std::alloc::Global;
 
 /// All indexes but the first one.

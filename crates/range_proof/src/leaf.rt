@@ -5,8 +5,8 @@ ghost use Rattle.proof_checks.specs.Making.{made_leaf};
 
 use crate::asked::Asked;
 use lc_base::Memory;
-use merkle_dag::Lineage;
 use proof_codec::LeafProof;
+use prov_query::Lineage;
 
 /// The leaf proof made of all rows of a lineage, which must be those up to the root's block.
 pub(crate) fn leaf_proof_of(lineage: &Lineage, asked: &Asked) -> Result<LeafProof, Memory>

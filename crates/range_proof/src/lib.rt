@@ -1,12 +1,18 @@
-//! Makes the proof of all versions of a key between two blocks from a lineage, for one who has only
-//! the root at a block.
+//! All versions of a key between two blocks of a lineage, and the proof of them, for one who has
+//! only the root at a block.
 #![tactic(auto)]
 
 mod asked;
+mod between;
 mod gathering;
+mod going_back;
 mod leaf;
 mod proving;
+mod ranging;
+mod reading;
 mod writing;
 
-pub use merkle_dag::{Lineage, QueryError};
+pub use answer_proof::prove;
+pub use between::indexes_between;
 pub use proving::prove_range;
+pub use ranging::range;

@@ -5,20 +5,17 @@ ghost use Rattle.std.specs.{
   Prelude.{◌≡◌, ◌==◌, ◌≤◌, ◌+◌, true, Some, length, slice_get, IfOk, IsErrOf},
   List.{concat},
 };
-ghost use Rattle.scratch_model.specs.Scratch.{is_known};
-ghost use Rattle.merkle_dag.specs.Lineage.{ledger_in, AgreesWith, LeavesLineage};
-ghost use Rattle.range_checks.specs.{
-  Making.{made_range},
-  Spelling.{range_fields},
-};
+ghost use Rattle.lc_io.specs.Scratch.{is_known};
+ghost use Rattle.prov_query.specs.merkle_dag.Lineage.{ledger_in, AgreesWith, LeavesLineage};
+ghost use Rattle.proof_checks.specs.{RangeMaking.{made_range}, RangeSpelling.{range_fields}};
 ghost use Rattle.range_proof.specs.Proving.{IsButForBodies, IsRangeRefused, ShowsRange};
 
 use crate::asked::Asked;
 use crate::gathering::bytes_of_rows;
 use lc_base::{Bytes, HostError, Key, Memory};
-use merkle_dag::{Lineage, QueryError};
-use range_checks::{made_ranges_are_accepted, made_ranges_are_proofs};
-use scratch_model::Scratch;
+use lc_io::Scratch;
+use proof_checks::{made_ranges_are_accepted, made_ranges_are_proofs};
+use prov_query::{Lineage, QueryError};
 use std::alloc::Global;
 
 /// Whether a block is the last one.

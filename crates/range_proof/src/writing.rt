@@ -7,10 +7,10 @@ ghost use Rattle.std.specs.{
   List.{concat, flat_map},
   Int.{w32, to_be_bytes},
 };
-ghost use Rattle.scratch_model.specs.Scratch.{is_known};
+ghost use Rattle.lc_io.specs.Scratch.{is_known};
 ghost use Rattle.entry_store.specs.declared.entry.EntryId.{EntryId as Id};
-ghost use Rattle.merkle_dag.specs.Lineage.{AgreesWith, LeavesLineage};
-ghost use Rattle.range_checks.specs.Spelling.{front_fields};
+ghost use Rattle.prov_query.specs.merkle_dag.Lineage.{AgreesWith, LeavesLineage};
+ghost use Rattle.proof_checks.specs.RangeSpelling.{front_fields};
 ghost use Rattle.range_proof.specs.Parts.{
   AreWithin,
   AreEntriesWithin,
@@ -22,12 +22,12 @@ ghost use Rattle.range_proof.specs.Parts.{
 use crate::asked::Asked;
 use byte_fields::{put_key, put_u32};
 use entry_store::EntryId;
+use entry_views::body_of_bytes;
 use lc_base::{HostError, Memory};
-use merkle_dag::Lineage;
+use lc_io::Scratch;
+use proof_checks::RANGE_MAGIC;
 use prov_entry::{write_body, write_header};
-use range_checks::MAGIC;
-use row_bodies::body_of_bytes;
-use scratch_model::Scratch;
+use prov_query::Lineage;
 use std::alloc::Global;
 
 /// Appends the magic bytes, the key, the first block and the last one.
@@ -35,7 +35,7 @@ pub(crate) fn put_front(out: &mut Vec<u8>, asked: &Asked) -> Result<(), Memory>
     ensures { OnOk result (out.new.items ≡ out.old.items
         ++ concat (front_fields asked.now.key asked.now.from asked.now.to)) }
 {
-    out.extend_from_slice(&MAGIC)?;
+    out.extend_from_slice(&RANGE_MAGIC)?;
     put_key(out, &asked.key)?;
     put_u32(out, asked.from)?;
     put_u32(out, asked.to)

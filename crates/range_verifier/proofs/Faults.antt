@@ -8,20 +8,23 @@ use Rattle.std.proofs.lemmas.Slice.Zip.{length-zip, firsts-zip, seconds-zip}
 use Rattle.prov_entry.specs.declared.entry.Link.{Link}
 use Rattle.prov_entry.specs.declared.entry.Header.{Header}
 use Rattle.prov_entry.specs.declared.entry.Body.{Body}
-use Rattle.row_ranges.proofs.root_laws.Parts.{filter_short}
+use Rattle.root_laws.proofs.Parts.{filter_short}
 use Rattle.proof_codec.specs.declared.proof.LeafProof.{LeafProof}
 use Rattle.proof_codec.specs.Spelling.{last_of}
-use Rattle.proof_checks.specs.declared.claim.Claim.{Claim}
-use Rattle.proof_checks.specs.declared.reject.Reject.{Reject}
-use Rattle.proof_checks.specs.Checks.{after, headers_fault, claim_before, expected_first}
-use Rattle.proof_checks.specs.Checks.{root_fault, leaf_fault}
+use Rattle.proof_verifier.specs.proof_checks.declared.claim.Claim.{Claim}
+use Rattle.proof_verifier.specs.proof_checks.declared.reject.Reject.{Reject}
+use Rattle.proof_verifier.specs.proof_checks.Checks.{after, headers_fault, claim_before}
+use Rattle.proof_verifier.specs.proof_checks.Checks.{expected_first}
+use Rattle.proof_verifier.specs.proof_checks.Checks.{root_fault, leaf_fault}
 use Rattle.proof_verifier.specs.Walking.{HeaderClaim, walk_end}
 use Rattle.proof_verifier.proofs.Walks.{told, walk_end_is}
-use Rattle.range_checks.specs.declared.range_proof.RangeProof.{RangeProof}
-use Rattle.range_checks.specs.declared.reject.RangeReject.{RangeReject}
-use Rattle.range_checks.specs.RangeTexts.{IsRangeProof}
-use Rattle.range_checks.specs.Checks.{next_in_range, path_fault, shown_fault, as_range_reject}
-use Rattle.range_checks.specs.Checks.{is_within, headers_within, bodies_fault, fault_in}
+use Rattle.proof_verifier.specs.proof_checks.declared.range_proof.RangeProof.{RangeProof}
+use Rattle.proof_verifier.specs.proof_checks.declared.range_reject.RangeReject.{RangeReject}
+use Rattle.proof_verifier.specs.proof_checks.RangeTexts.{IsRangeProof}
+use Rattle.proof_verifier.specs.proof_checks.RangeChecks.{next_in_range, path_fault, shown_fault}
+use Rattle.proof_verifier.specs.proof_checks.RangeChecks.{as_range_reject}
+use Rattle.proof_verifier.specs.proof_checks.RangeChecks.{is_within, headers_within, bodies_fault}
+use Rattle.proof_verifier.specs.proof_checks.RangeChecks.{fault_in}
 use Rattle.range_verifier.specs.Shown.{header_shown, body_shown}
 
 -- ---- a walk over headers

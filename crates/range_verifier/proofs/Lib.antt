@@ -1,3 +1,5 @@
+pub mod Counting
+pub mod Fields
+pub mod Viewed
 pub mod Faults
 pub mod Verified
-pub use Rattle.range_views.proofs as range_views

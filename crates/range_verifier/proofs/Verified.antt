@@ -5,18 +5,18 @@ use Rattle.lc_base.specs.Answers.{Answers}
 use Rattle.lc_base.specs.declared.digest.Digest.{Digest}
 use Rattle.lc_base.specs.declared.row.Row.{Row}
 use Rattle.lc_base.specs.declared.row.Version.{Version}
-use Rattle.proof_views.specs.declared.proof_view.ViewError.{ViewError}
-use Rattle.proof_views.specs.declared.proof_view.ViewError.TheVariants.{Malformed}
-use Rattle.proof_views.specs.Viewing.{told_at}
-use Rattle.proof_checks.specs.root_laws.Root.{root_of}
-use Rattle.proof_checks.specs.root_laws.TypedLedger.{IsTypedHistory}
-use Rattle.range_checks.specs.declared.range_proof.RangeProof.{RangeProof}
-use Rattle.range_checks.specs.declared.reject.RangeReject.{RangeReject}
-use Rattle.range_checks.specs.Checks.{range_verdict}
-use Rattle.range_checks.specs.RangeTexts.{IsRangeProof, range_texts}
-use Rattle.range_checks.specs.Soundness.{RangesOrClashes}
-use Rattle.range_checks.proofs.Sound.{range_is_sound}
-use Rattle.range_views.specs.Reading.{range_in}
+use Rattle.proof_codec.specs.declared.proof_view.ViewError.{ViewError}
+use Rattle.proof_codec.specs.declared.proof_view.ViewError.TheVariants.{Malformed}
+use Rattle.proof_codec.specs.Viewing.{told_at}
+use Rattle.root_laws.specs.Root.{root_of}
+use Rattle.root_laws.specs.TypedLedger.{IsTypedHistory}
+use Rattle.proof_verifier.specs.proof_checks.declared.range_proof.RangeProof.{RangeProof}
+use Rattle.proof_verifier.specs.proof_checks.declared.range_reject.RangeReject.{RangeReject}
+use Rattle.proof_verifier.specs.proof_checks.RangeChecks.{range_verdict}
+use Rattle.proof_verifier.specs.proof_checks.RangeTexts.{IsRangeProof, range_texts}
+use Rattle.proof_verifier.specs.proof_checks.RangeSoundness.{RangesOrClashes}
+use Rattle.proof_verifier.proofs.proof_checks.RangeSound.{range_is_sound}
+use Rattle.range_verifier.specs.Reading.{range_in}
 use Rattle.range_verifier.specs.declared.error.RangeError.{RangeError}
 use Rattle.range_verifier.specs.declared.error.RangeError.TheVariants.{Rejected}
 use Rattle.range_verifier.specs.Errors.{fault_told}

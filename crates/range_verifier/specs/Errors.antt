@@ -1,6 +1,6 @@
 -- Which fault an error reports.
 use Rattle.std.specs.Prelude.{Option, Some, None}
-use Rattle.range_checks.specs.declared.reject.RangeReject.{RangeReject}
+use Rattle.proof_verifier.specs.proof_checks.declared.range_reject.RangeReject.{RangeReject}
 use Rattle.range_verifier.specs.declared.error.RangeError.{RangeError}
 use Rattle.range_verifier.specs.declared.error.RangeError.TheVariants.{Rejected, Memory}
 

@@ -1,13 +1,15 @@
 -- What `verify_range` returns for bytes, if the reader has a root, a key, and two blocks.
 use Rattle.std.specs.Prelude.{ℕ, List, Option, Some, None, Result, Ok, Err}
 use Rattle.lc_base.specs.declared.row.Version.{Version}
-use Rattle.proof_views.specs.declared.proof_view.ViewError.{ViewError}
-use Rattle.proof_views.specs.declared.proof_view.ViewError.TheVariants as views
-use Rattle.range_checks.specs.declared.range_proof.RangeProof.{RangeProof}
-use Rattle.range_checks.specs.declared.reject.RangeReject.{RangeReject}
-use Rattle.range_checks.specs.declared.reject.RangeReject.TheVariants.{Malformed}
-use Rattle.range_checks.specs.Checks.{range_verdict}
-use Rattle.range_views.specs.Reading.{range_in}
+use Rattle.proof_codec.specs.declared.proof_view.ViewError.{ViewError}
+use Rattle.proof_codec.specs.declared.proof_view.ViewError.TheVariants as views
+use Rattle.proof_verifier.specs.proof_checks.declared.range_proof.RangeProof.{RangeProof}
+use Rattle.proof_verifier.specs.proof_checks.declared.range_reject.RangeReject.{RangeReject}
+use Rattle.proof_verifier.specs.proof_checks.declared.range_reject.RangeReject.TheVariants.{
+  Malformed,
+}
+use Rattle.proof_verifier.specs.proof_checks.RangeChecks.{range_verdict}
+use Rattle.range_verifier.specs.Reading.{range_in}
 use Rattle.range_verifier.specs.declared.error.RangeError.{RangeError}
 use Rattle.range_verifier.specs.declared.error.RangeError.TheVariants.{Rejected}
 

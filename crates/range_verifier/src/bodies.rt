@@ -1,12 +1,11 @@
 //! Each body must be the one that its header names.
 
 ghost use Rattle.std.specs.Prelude.{◌≡◌, ◌<◌, ◌^◌, length, map};
-ghost use Rattle.range_checks.specs.Checks.{body_fault, bodies_fault};
+ghost use Rattle.proof_verifier.specs.proof_checks.RangeChecks.{body_fault, bodies_fault};
 ghost use Rattle.range_verifier.specs.Shown.{header_shown, body_shown};
 
 use crate::shown::{ShownVersion, ShownVersions};
-use proof_verifier::body_digest;
-use range_checks::RangeReject;
+use proof_verifier::{RangeReject, body_digest};
 
 /// What is wrong with the body at this index.
 fn body_fault(item: u32, version: &ShownVersion) -> Option<RangeReject>

@@ -2,19 +2,24 @@
 //! the bodies. None of them takes memory.
 
 ghost use Rattle.std.specs.{Prelude.{◌≡◌}, Option.{option_or}};
-ghost use Rattle.range_checks.specs.{
-  Checks.{is_same_range, query_fault, as_range_reject, path_fault, shown_fault, fault_in},
-  RangeTexts.{IsRangeProof},
+ghost use Rattle.proof_verifier.specs.{
+  proof_checks.RangeChecks.{
+    is_same_range,
+    query_fault,
+    as_range_reject,
+    path_fault,
+    shown_fault,
+    fault_in,
+  },
+  proof_checks.RangeTexts.{IsRangeProof},
 };
 
 use crate::bodies::bodies_fault;
+use crate::range_view::RangeView;
 use crate::rule::InRange;
 use crate::shown::ShownVersions;
 use lc_base::{Digest, Key};
-use proof_checks::Reject;
-use proof_verifier::{claim_of_leaf, expected_first, fault_of_leaf, walk};
-use range_checks::RangeReject;
-use range_views::RangeView;
+use proof_verifier::{RangeReject, Reject, claim_of_leaf, expected_first, fault_of_leaf, walk};
 
 /// Whether a range proof is of this key and these blocks.
 fn is_same_range(key: &Key, from: u32, to: u32, range: &RangeView) -> bool

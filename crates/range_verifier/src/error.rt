@@ -4,7 +4,7 @@ ghost use Rattle.std.specs.Prelude.{◌≡◌};
 ghost use Rattle.range_verifier.specs.declared.error.RangeError.TheVariants.{Memory as NoMemory};
 
 use lc_base::Memory;
-use range_checks::RangeReject;
+use proof_verifier::RangeReject;
 
 /// Why a range proof shows nothing.
 #[derive(Clone, Copy)]

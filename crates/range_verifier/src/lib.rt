@@ -3,14 +3,19 @@
 #![tactic(auto)]
 
 mod bodies;
+mod bodies_view;
 mod checks;
 mod error;
+mod front;
+mod range_view;
 mod rule;
 mod shown;
 mod verifying;
 mod versions;
+mod within;
 
+pub use bodies_view::BodiesView;
 pub use error::RangeError;
-pub use lc_base::VersionList;
-pub use range_checks::RangeReject;
+pub use range_view::{RangeView, view_range};
 pub use verifying::verify_range;
+pub use within::is_within;

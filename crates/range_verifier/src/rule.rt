@@ -2,7 +2,7 @@
 //! on each is of the version before, down to the first block.
 
 ghost use Rattle.std.specs.Prelude.{◌≡◌};
-ghost use Rattle.range_checks.specs.Checks.{if_from, version_before};
+ghost use Rattle.proof_verifier.specs.proof_checks.RangeChecks.{if_from, version_before};
 
 use entry_views::HeaderView;
 use proof_verifier::{Lookup, NextHeader};
@@ -38,7 +38,7 @@ fn version_before(from: u32, header: &HeaderView) -> Option<Link>
 }
 
 impl NextHeader for InRange {
-    ghost use Rattle.range_checks.specs.Checks.{next_in_range};
+    ghost use Rattle.proof_verifier.specs.proof_checks.RangeChecks.{next_in_range};
 
     ghost next = { λ range. next_in_range range.from range.to };
 

@@ -5,11 +5,13 @@ ghost use Rattle.std.specs.{
   Prelude.{◌≡◌, ◌∷◌, [], filter, MatchOption},
   List.{zip},
 };
-ghost use Rattle.range_checks.specs.Checks.{is_within, headers_within};
+ghost use Rattle.proof_verifier.specs.proof_checks.RangeChecks.{is_within, headers_within};
 
+use crate::bodies_view::BodiesView;
+use crate::range_view::RangeView;
+use crate::within::is_within;
 use entry_views::{BodyView, HeaderView};
-use proof_views::HeadersView;
-use range_views::{BodiesView, RangeView, is_within};
+use proof_codec::HeadersView;
 use std::marker::Model;
 
 /// A version that a range proof shows, read in place.
@@ -39,7 +41,7 @@ pub(crate) struct ShownVersions<'p> {
 impl<'p> Model for ShownVersions<'p> {
     ghost use Rattle.std.specs.{Prelude.{List, filter}, List.{zip}};
     ghost use Rattle.prov_entry.specs.declared.entry.{Header.{Header}, Body.{Body}};
-    ghost use Rattle.range_checks.specs.Checks.{is_within};
+    ghost use Rattle.proof_verifier.specs.proof_checks.RangeChecks.{is_within};
 
     ghost Value = { List (Header × Body) };
 

@@ -7,32 +7,29 @@ ghost use Rattle.lc_base.specs.{
   declared.digest.Digest.{Digest as DigestValue},
   declared.row.Row.{Row},
 };
-ghost use Rattle.range_views.specs.Reading.{IsInvalidAt};
-ghost use Rattle.proof_checks.specs.{
-  root_laws.Root.{root_of},
-  root_laws.TypedLedger.{IsTypedHistory},
-};
-ghost use Rattle.range_checks.specs.{
-  Checks.{range_verdict},
-  RangeTexts.{IsRangeProof, range_texts},
-  Spelling.{SpellsRange},
-  Soundness.{RangesOrClashes},
-  declared.range_proof.RangeProof.{RangeProof as RangeValue},
-};
 ghost use Rattle.range_verifier.specs.{
+  Reading.{IsInvalidAt},
   Errors.{fault_told},
   Verdicts.{fault_of_view, malformed_at, range_verdict_on},
   declared.error.RangeError.TheVariants.{Rejected},
 };
+ghost use Rattle.root_laws.specs.{Root.{root_of}, TypedLedger.{IsTypedHistory}};
+ghost use Rattle.proof_verifier.specs.{
+  proof_checks.RangeChecks.{range_verdict},
+  proof_checks.RangeTexts.{IsRangeProof, range_texts},
+  proof_checks.RangeSpelling.{SpellsRange},
+  proof_checks.RangeSoundness.{RangesOrClashes},
+  proof_checks.declared.range_proof.RangeProof.{RangeProof as RangeValue},
+};
 
 use crate::checks::first_fault;
 use crate::error::RangeError;
+use crate::range_view::{RangeView, view_range};
 use crate::shown::ShownVersions;
 use crate::versions::copied;
 use lc_base::{Digest, Key, VersionList};
-use proof_views::ViewError;
-use range_checks::RangeReject;
-use range_views::{RangeView, view_range};
+use proof_codec::ViewError;
+use proof_verifier::RangeReject;
 use std::alloc::Global;
 
 /// The fault for bytes that aren't a range proof.

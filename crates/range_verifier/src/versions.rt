@@ -5,7 +5,7 @@ ghost use Rattle.std.specs.{
   List.{AllByRecursion},
 };
 ghost use Rattle.byte_fields.specs.{Reader.{value_seen}, Spelling.{IsValue}};
-ghost use Rattle.range_checks.specs.Checks.{version_shown};
+ghost use Rattle.proof_verifier.specs.proof_checks.RangeChecks.{version_shown};
 
 use crate::shown::{ShownVersion, ShownVersions};
 use byte_fields::ValueView;

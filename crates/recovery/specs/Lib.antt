@@ -1,4 +1,3 @@
 pub mod Node
 pub mod Restoring
-pub use Rattle.rooted_chain.specs.chain_replay as chain_replay
 pub use Rattle.rooted_chain.specs as rooted_chain

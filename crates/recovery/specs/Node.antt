@@ -4,7 +4,7 @@ use Rattle.std.specs.Prelude.{◌≡◌, ◌⊎◌, ℕ, ◌+◌, Bool, true, fa
 use Rattle.std.specs.Prelude.{Option, Some, None, IfSome, Result, Ok, Err}
 use Rattle.std.specs.Option.{is_some}
 use Rattle.lc_io.specs.Disk.{DiskState}
-use Rattle.scratch_model.specs.Scratch.{ScratchState, is_known}
+use Rattle.lc_io.specs.Scratch.{ScratchState, is_known}
 use Rattle.body_store.specs.Bodies.{BodiesState}
 use Rattle.rooted_chain.specs.merkle_dag.Lineage.{LineageState, AgreesWith}
 use Rattle.disk_model.specs.Disk.{Keeps, Rests, content_of}

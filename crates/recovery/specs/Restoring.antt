@@ -5,7 +5,7 @@ use Rattle.lc_base.specs.Faults.{HasCause}
 use Rattle.lc_base.specs.declared.digest.Digest.{Digest}
 use Rattle.lc_io.specs.Disk.{DiskState, Stays}
 use Rattle.disk_model.specs.Leaving.{LeavesWire}
-use Rattle.scratch_model.specs.Scratch.{ScratchState, Serves}
+use Rattle.lc_io.specs.Scratch.{ScratchState, Serves}
 use Rattle.block_codec.specs.declared.block.Block.{Block}
 use Rattle.block_codec.specs.declared.placement.Placement.TheVariants.{Next}
 use Rattle.block_log.specs.Standing.{NotALog, Damaged, blocks_in, standing}

@@ -2,11 +2,13 @@
 
 ghost use Rattle.std.specs.Prelude.{◌≡◌, ℕ, List, Ok, Some, IfOk, false, true};
 ghost use Rattle.lc_base.specs.Faults.{HasCause};
-ghost use Rattle.scratch_model.specs.Scratch.{is_known, Serves};
+ghost use Rattle.lc_io.specs.Scratch.{is_known, Serves};
 ghost use Rattle.disk_model.specs.{Disk.{Keeps, content_of}, Leaving.{LeavesWire}};
 ghost use Rattle.block_codec.specs.{Reading.{block_in}, declared.block.Block.{Block as Blocks}};
-ghost use Rattle.rooted_chain.specs.chain_replay.Chain.{StandsFor};
-ghost use Rattle.rooted_chain.specs.chain_replay.Judging.{Added, judgement_of, IfNext, IsJudged, IsNextBlock};
+ghost use Rattle.rooted_chain.specs.{
+  chain_replay.Chain.{StandsFor},
+  chain_replay.Judging.{Added, judgement_of, IfNext, IsJudged, IsNextBlock},
+};
 ghost use Rattle.recovery.specs.Node.{
   IsNodeOf,
   IsReady,
@@ -32,8 +34,8 @@ use block_codec::Block;
 use block_log::DiskFault;
 use disk_model::Disk;
 use lc_base::{Digest, HostError, Memory};
+use lc_io::Scratch;
 use rooted_chain::{Judged, Marking, Replay};
-use scratch_model::Scratch;
 use std::alloc::Global;
 
 /// The error of a block that did not run, as an error of the node.

@@ -14,4 +14,3 @@ mod upgrading;
 pub use errors::{AppendError, StartError};
 pub use node::{Appended, Node};
 pub use opening::stored_chain;
-pub use rooted_chain::Refusal;

@@ -2,8 +2,7 @@
 
 ghost use Rattle.std.specs.Prelude.{nat_le, None};
 
-use lc_io::{Failed, one_more};
-use scratch_model::Scratch;
+use lc_io::{Failed, Scratch, one_more};
 
 /// A device that keeps no byte: each call of it fails, and is counted.
 #[derive(Drop)]

@@ -1,16 +1,31 @@
 //! A node: a chain and a log that always have the same blocks.
 
-ghost use Rattle.std.specs.Prelude.{◌≡◌, ◌<◌, ◌≤◌, ℕ, true, List, length, slice_get, Some, IfOk, IsErrOf, MatchOption};
+ghost use Rattle.std.specs.Prelude.{
+  ◌≡◌,
+  ◌<◌,
+  ◌≤◌,
+  ℕ,
+  true,
+  List,
+  length,
+  slice_get,
+  Some,
+  IfOk,
+  IsErrOf,
+  MatchOption,
+};
 ghost use Rattle.disk_model.specs.Disk.{IsSettled, content_of};
-ghost use Rattle.scratch_model.specs.Scratch.{is_known, Serves};
+ghost use Rattle.lc_io.specs.Scratch.{is_known, Serves};
 ghost use Rattle.block_codec.specs.{
   Placement.{most_blocks},
   declared.block.Block.{Block as Blocks},
 };
 ghost use Rattle.block_log.specs.Standing.{standing};
-ghost use Rattle.rooted_chain.specs.chain_exec.Compiled.{compiled_in};
-ghost use Rattle.rooted_chain.specs.chain_replay.Chain.{StandsFor};
-ghost use Rattle.rooted_chain.specs.Roots.{root_in};
+ghost use Rattle.rooted_chain.specs.{
+  chain_exec.Compiled.{compiled_in},
+  chain_replay.Chain.{StandsFor},
+  Roots.{root_in},
+};
 ghost use Rattle.recovery.specs.{
   Node.{IsNodeStarted, IsReady, lineage_in, next_in_chain},
   Restoring.{ReadsLog},
@@ -20,10 +35,9 @@ use crate::errors::StartError;
 use crate::opening::open;
 use block_log::Log;
 use disk_model::Disk;
-use lc_base::Digest;
-use resources::Resources;
+use lc_base::{Digest, Resources};
+use lc_io::Scratch;
 use rooted_chain::{Lineage, LineageChain, ReceiptList, Replay};
-use scratch_model::Scratch;
 use std::marker::Model;
 
 /// The chain of the blocks that a log holds, with bodies on a scratch device, and the log.

@@ -15,9 +15,9 @@ use crate::no_scratch::NoScratch;
 use crate::restoring::restore;
 use block_log::{Log, Opened};
 use disk_model::Disk;
-use resources::Resources;
+use lc_base::Resources;
+use lc_io::Scratch;
 use rooted_chain::{Chain, Replay};
-use scratch_model::Scratch;
 
 /// Opens the log on a disk: the chain of the blocks that it holds, and the log. It writes nothing
 /// to the disk.

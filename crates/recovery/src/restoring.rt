@@ -9,17 +9,24 @@ ghost use Rattle.block_codec.specs.{
 };
 ghost use Rattle.block_log.specs.Reader.{AreRead};
 ghost use Rattle.rooted_chain.specs.chain_replay.Chain.{IsKnownFor, StandsFor};
-ghost use Rattle.recovery.specs.Restoring.{HasRead, IfMade, IsRestored, IsRun, ReadsLog, RunsOn, start_error};
+ghost use Rattle.recovery.specs.Restoring.{
+  HasRead,
+  IfMade,
+  IsRestored,
+  IsRun,
+  ReadsLog,
+  RunsOn,
+  start_error,
+};
 ghost use Rattle.recovery.specs.declared.errors.StartError.TheVariants as starts;
 
 use crate::errors::StartError;
 use block_codec::Placement;
 use block_log::{Log, LogError, LogReader, Stored, Turn};
 use disk_model::Disk;
-use lc_base::{HostError, Memory};
-use resources::Resources;
+use lc_base::{HostError, Memory, Resources};
+use lc_io::Scratch;
 use rooted_chain::Replay;
-use scratch_model::Scratch;
 use std::alloc::Global;
 
 impl From<LogError> for StartError {

@@ -6,7 +6,7 @@ ghost use Rattle.std.specs.{
 };
 ghost use Rattle.lc_base.specs.Faults.{HasCause};
 ghost use Rattle.disk_model.specs.{Disk.{Keeps, Rests, content_of}, Leaving.{LeavesWire}};
-ghost use Rattle.scratch_model.specs.Scratch.{ScratchState};
+ghost use Rattle.lc_io.specs.Scratch.{ScratchState};
 ghost use Rattle.block_codec.specs.{Reading.{block_in}, declared.block.Block.{Block}};
 ghost use Rattle.block_log.specs.{
   Standing.{Placer, Logged, chain_of, next_block, with_mark},

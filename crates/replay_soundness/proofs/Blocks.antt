@@ -25,10 +25,11 @@ use Rattle.contract_semantics.specs.Answers.{IsFaithful}
 use Rattle.contract_semantics.specs.Calls.{rows_written}
 use Rattle.contract_semantics.specs.Reading.{block_of}
 use Rattle.contract_semantics.specs.Scenes.{Place}
-use Rattle.chain_replay.specs.chain_exec.BlockRows.{IsOnNewest, HasNewestDeps, AreTxRows, AreBlockRows}
-use Rattle.chain_replay.specs.chain_exec.Effect.{version_to_depend_on, deps_on, is_written}
-use Rattle.chain_replay.proofs.chain_exec.BlockSteps.{pairs_append}
-use Rattle.chain_replay.proofs.chain_exec.TxRows.{no_rows}
+use Rattle.chain_input.specs.chain_exec.BlockRows.{IsOnNewest, HasNewestDeps, AreTxRows}
+use Rattle.chain_input.specs.chain_exec.BlockRows.{AreBlockRows}
+use Rattle.chain_input.specs.chain_exec.Effect.{version_to_depend_on, deps_on, is_written}
+use Rattle.chain_input.proofs.chain_exec.BlockSteps.{pairs_append}
+use Rattle.chain_input.proofs.chain_exec.TxRows.{no_rows}
 use Rattle.replay_soundness.proofs.Reading.{found_typed}
 
 -- ---- a Set

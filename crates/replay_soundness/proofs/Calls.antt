@@ -5,7 +5,7 @@ use Rattle.std.specs.Option.{option_map}
 use Rattle.std.specs.List.{All}
 use Rattle.std.specs.Cmp.Lexicographic.{pointwise}
 use Rattle.std.proofs.lemmas.List.Elements.{All-nil, All-cons, All-head, All-tail, All-map, All-weaker}
-use Rattle.lc_names.specs.KeyBytes.{IsKey}
+use Rattle.lc_base.specs.KeyBytes.{IsKey}
 use Rattle.lc_base.specs.History.{newest}
 use Rattle.lc_base.specs.declared.row.Row.{Row}
 use Rattle.lc_base.specs.declared.value.Value.{Value}
@@ -25,8 +25,8 @@ use Rattle.contract_semantics.specs.Scenes.{Scene, scene_of}
 use Rattle.contract_semantics.specs.Steps.{Machine, machine, Step, Done, Failed}
 use Rattle.contract_semantics.specs.Statements.{Ending, statements_run}
 use Rattle.contract_semantics.specs.Calls.{CallResult, are_arguments, first_variables, call_ended, function_run, function_called, refused_call, call_result, rows_written}
-use Rattle.contract_laws.proofs.Tame.{FailsBadly, is_ok_status}
-use Rattle.contract_laws.proofs.Statements.{tame_statements}
+use Rattle.contract_semantics.proofs.Tame.{FailsBadly, is_ok_status}
+use Rattle.contract_semantics.proofs.Statements.{tame_statements}
 use Rattle.replay_soundness.specs.TypedLaws.{CallsWriteTypedRows}
 use Rattle.root_laws.specs.TypedLedger.{IsTypedRow, IsTypedHistory}
 use Rattle.replay_soundness.specs.Literals.{RunValues, AreFunctionsOfValues}

@@ -11,8 +11,8 @@ use Rattle.contract_check.specs.Faults.{check_fault}
 use Rattle.contract_grammar.specs.Grammar.{Limits, limits, IsStatement, Lets, Assigns, Ifs, IfElses, Whiles, Puts, Removes, Fails, Returns, IsFrom, NoFrom, FromThese, IsBlock, Block, IsStatements, Closes, Then, IsFunction, IsOneFunction, IsContract, LastFunction, MoreFunctions}
 use Rattle.contract_parse.specs.Syntax.{Outcome, IsOutcome}
 use Rattle.contract_parse.proofs.Outcomes.{some_outcome}
-use Rattle.chain_replay.specs.chain_exec.Compiled.{faultless, functions_of, compiled_in}
-use Rattle.chain_replay.proofs.chain_exec.TheLaws.{one_compiler}
+use Rattle.chain_input.specs.chain_exec.Compiled.{faultless, functions_of, compiled_in}
+use Rattle.chain_input.proofs.chain_exec.TheLaws.{one_compiler}
 use Rattle.replay_soundness.specs.Literals.{RunsValues, RunValues, PartsHaveValues, AreFunctionsOfValues}
 use Rattle.replay_soundness.specs.TypedLaws.{CompilesValues, CompilersGiveValues}
 use Rattle.replay_soundness.proofs.Literals.{IsGood, front, back, tokens_good, expr_values, more_values}

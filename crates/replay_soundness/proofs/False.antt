@@ -21,10 +21,10 @@ use Rattle.block_codec.specs.declared.block.Tx.{Tx}
 use Rattle.block_codec.specs.declared.block.Tx.TheVariants.{Set, Deploy, Call}
 use Rattle.block_codec.specs.declared.block.Block.{Block}
 use Rattle.block_codec.specs.declared.placement.Placement.TheVariants.{Next}
-use Rattle.chain_replay.specs.chain_exec.Compiled.{Compiler, compiled_in}
-use Rattle.chain_replay.specs.chain_exec.Replay.{replay}
-use Rattle.chain_replay.proofs.chain_exec.TheLaws.{one_compiler}
-use Rattle.chain_replay.specs.Chain.{IsChain, placement_in}
+use Rattle.chain_input.specs.chain_exec.Compiled.{Compiler, compiled_in}
+use Rattle.chain_input.specs.chain_exec.Replay.{replay}
+use Rattle.chain_input.proofs.chain_exec.TheLaws.{one_compiler}
+use Rattle.chain_input.specs.chain_replay.Chain.{IsChain, placement_in}
 use Rattle.root_laws.specs.TypedLedger.{IsTypedRow}
 use Rattle.replay_soundness.specs.TypedChains.{IsLawfulChain}
 use Rattle.replay_soundness.specs.FalseLaws.{PlacesDoNotMatter, LimitsDoNotMatter, CompilersDoNotMatter}

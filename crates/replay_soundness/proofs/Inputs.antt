@@ -9,10 +9,11 @@ use Rattle.block_codec.specs.declared.block.Block.{Block}
 use Rattle.block_codec.specs.declared.placement.Placement.{Placement}
 use Rattle.block_codec.specs.declared.placement.Placement.TheVariants.{Known as KnownBlock, Next, Not}
 use Rattle.block_codec.proofs.FrameBytes.{frame_bytes}
-use Rattle.replay_soundness.specs.chain_exec.Compiled.{Compiler}
-use Rattle.replay_soundness.specs.chain_replay.Chain.{placement_by_mark, placement_in}
-use Rattle.replay_soundness.specs.chain_replay.Judging.{Placer, Taken, Known, Added, judged_by_placement, judgement_of, added_by, added_by_all}
-use Rattle.replay_soundness.specs.chain_replay.declared.refusal.Refusal.{Refusal}
+use Rattle.chain_input.specs.chain_exec.Compiled.{Compiler}
+use Rattle.chain_input.specs.chain_replay.Chain.{placement_by_mark, placement_in}
+use Rattle.chain_input.specs.chain_replay.Judging.{Placer, Taken, Known, Added, judged_by_placement}
+use Rattle.chain_input.specs.chain_replay.Judging.{judgement_of, added_by, added_by_all}
+use Rattle.chain_input.specs.chain_replay.declared.refusal.Refusal.{Refusal}
 use Rattle.chain_input.specs.Folding.{Fold, fold_after_frame, fold_step, fold_from}
 use Rattle.replay_soundness.specs.Chains.{InputsAddToChains, InputsAddToLogs, InputsHoldChains}
 use Rattle.replay_soundness.proofs.Longer.{PlacesAsChain, IsFitting, no_blocks, by_versions}

@@ -4,7 +4,7 @@ use Rattle.std.specs.Prelude.{IfOk, IfSome, nat_le}
 use Rattle.std.specs.Int.{w64}
 use Rattle.std.specs.Int.RustNames.{FitsSigned}
 use Rattle.std.specs.List.{All}
-use Rattle.lc_names.specs.KeyBytes.{IsKey}
+use Rattle.lc_base.specs.KeyBytes.{IsKey}
 use Rattle.lc_base.specs.declared.value.Value.{Value}
 use Rattle.lc_base.specs.declared.value.Value.TheVariants as values
 use Rattle.lc_base.specs.declared.tx_status.TxStatus.{TxStatus}

@@ -17,4 +17,7 @@ pub mod Literals
 pub mod Compiling
 pub mod TypedChains
 pub mod False
+pub mod LightSound
+pub mod Made
 pub use Rattle.rooted_chain.proofs as rooted_chain
+pub use Rattle.text_clashes.proofs as text_clashes

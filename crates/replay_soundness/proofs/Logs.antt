@@ -12,8 +12,8 @@ use Rattle.block_log.specs.declared.layout.TheConstants.{OPEN_GATE, FIRST_GATE, 
 use Rattle.block_log.specs.declared.layout.Stored.{Stored}
 use Rattle.block_log.specs.Standing.{Standing, Blank, NotALog, Damaged, Holds, Logged, nothing_logged, logged_of, Placer, NextBlock, next_decoded, next_block, blocks_in, after_record, is_mark, is_sized, record_at, records_at, is_log, is_blank, standing}
 use Rattle.block_log.proofs.Chained.{placed}
-use Rattle.replay_soundness.specs.chain_exec.Compiled.{Compiler}
-use Rattle.replay_soundness.specs.chain_replay.Chain.{placement_by_mark}
+use Rattle.chain_input.specs.chain_exec.Compiled.{Compiler}
+use Rattle.chain_input.specs.chain_replay.Chain.{placement_by_mark}
 use Rattle.replay_soundness.specs.TypedChains.{IsLawfulChain}
 use Rattle.replay_soundness.specs.Chains.{LogsHoldChains}
 use Rattle.replay_soundness.proofs.Longer.{IsFitting, no_blocks, none_fit, by_mark, longer_fitting}

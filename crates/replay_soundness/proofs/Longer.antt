@@ -9,10 +9,10 @@ use Rattle.block_codec.specs.Spelling.{IsBlock}
 use Rattle.block_codec.specs.declared.block.Block.{Block}
 use Rattle.block_codec.specs.declared.placement.Placement.TheVariants.{Next}
 use Rattle.block_codec.proofs.Versions.{next_by_versions, fits_with_next}
-use Rattle.replay_soundness.specs.chain_exec.Compiled.{Compiler}
-use Rattle.replay_soundness.specs.chain_exec.Replay.{replay}
-use Rattle.replay_soundness.specs.chain_replay.Chain.{IsChain, placement_by_mark, placement_in}
-use Rattle.replay_soundness.specs.chain_replay.Judging.{Placer}
+use Rattle.chain_input.specs.chain_exec.Compiled.{Compiler}
+use Rattle.chain_input.specs.chain_exec.Replay.{replay}
+use Rattle.chain_input.specs.chain_replay.Chain.{IsChain, placement_by_mark, placement_in}
+use Rattle.chain_input.specs.chain_replay.Judging.{Placer}
 use Rattle.replay_soundness.specs.TypedChains.{IsLawfulChain}
 
 pub no_blocks : (compile : Compiler) → IsLawfulChain compile []

@@ -4,10 +4,10 @@ use Rattle.std.specs.Prelude.{IfOk, nat_le, nat_lt, filter_map}
 use Rattle.std.specs.List.{All}
 use Rattle.std.proofs.lemmas.Bool.Decides.{nat_tests}
 use Rattle.std.proofs.lemmas.List.Elements.{All-push, All-set}
-use Rattle.lc_names.specs.Key.{all_good}
-use Rattle.lc_names.specs.KeyBytes.{IsKey, bad_key_byte}
-use Rattle.lc_names.specs.declared.key.KeyError.TheVariants as key_errors
-use Rattle.lc_names.specs.declared.limits.TheConstants.{MAX_KEY_BYTES}
+use Rattle.lc_base.specs.Key.{all_good}
+use Rattle.lc_base.specs.KeyBytes.{IsKey, bad_key_byte}
+use Rattle.lc_base.specs.declared.key.KeyError.TheVariants as key_errors
+use Rattle.lc_base.specs.declared.name_limits.TheConstants.{MAX_KEY_BYTES}
 use Rattle.lc_base.specs.declared.limits.TheConstants.{MAX_DEPS}
 use Rattle.lc_base.specs.declared.value.Value.{Value}
 use Rattle.lc_base.specs.declared.value.Value.TheVariants as values

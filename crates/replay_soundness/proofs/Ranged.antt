@@ -2,8 +2,8 @@
 use Rattle.std.proofs.Common.{ℕ, ◌<◌, ◌^◌, length, map, arith}
 use Rattle.std.proofs.lemmas.List.{length-map}
 use Rattle.block_codec.specs.Placement.{digest_of}
-use Rattle.replay_soundness.specs.chain_exec.Replay.{replay}
-use Rattle.range_checks.proofs.Sound.{range_is_sound}
+use Rattle.chain_input.specs.chain_exec.Replay.{replay}
+use Rattle.text_clashes.proofs.proof_checks.RangeSound.{range_is_sound}
 use Rattle.replay_soundness.proofs.TypedChains.{replays_are_typed}
 use Rattle.replay_soundness.specs.Ranges.{AcceptedRangesAreOfReplays}
 

@@ -11,7 +11,7 @@ use Rattle.std.proofs.lemmas.Bool.Decides.{nat_tests}
 use Rattle.std.proofs.lemmas.List.Elements.{All-head, All-tail, All-push, All-filter, All-map, All-weaker}
 use Rattle.std.proofs.lemmas.List.Filters.{length-filter_both}
 use Rattle.std.proofs.lemmas.List.{length-map, reverse-append}
-use Rattle.lc_names.specs.KeyBytes.{IsKey}
+use Rattle.lc_base.specs.KeyBytes.{IsKey}
 use Rattle.lc_base.specs.TextBytes.{IsText}
 use Rattle.lc_base.proofs.TextBytes.{key_is_text, number_is_text}
 use Rattle.lc_base.specs.History.{scan, answer_of, answer_about, latest, is_version, newest, below, uses, depends_on, version_of, HasLawfulDeps}
@@ -47,7 +47,7 @@ use Rattle.contract_semantics.specs.Reading.{BuiltinResult, and_read, key_of_tex
 use Rattle.contract_semantics.specs.Asking.{block_before, answer_up_to, version_asked, list_asked, item_asked, item_part_of, list_told, value_told, block_told, tx_told, count_told, item_told, item_of}
 use Rattle.contract_semantics.specs.Builtins.{one_text, one_int, text_and_int, text_and_ints, with_args, reading_args, version_value, item_value, version_part, count_part, item_part, plain_value, builtin_result, taken_step, builtin_call, call_by_name}
 use Rattle.root_laws.specs.TypedLedger.{IsTypedRow, IsTypedHistory}
-use Rattle.contract_laws.proofs.Reading.{with_read}
+use Rattle.contract_semantics.proofs.Reading.{with_read}
 use Rattle.replay_soundness.proofs.Values.{small_fits, truth_fits}
 use Rattle.replay_soundness.proofs.Keeping.{IsTypedPut, IsTyped, Ends, Keeps, keeps_failed, keeps_charged}
 

@@ -5,7 +5,7 @@ use Rattle.std.specs.List.{All, AllByRecursion, list_any, starts_with}
 use Rattle.std.specs.Cmp.Lexicographic.{pointwise}
 use Rattle.std.proofs.lemmas.Bool.{or_parts}
 use Rattle.std.proofs.lemmas.List.Elements.{All-nil, All-cons, All-head, All-tail, All-append, All-weaker}
-use Rattle.lc_names.specs.KeyBytes.{IsKey}
+use Rattle.lc_base.specs.KeyBytes.{IsKey}
 use Rattle.lc_base.specs.History.{IsLawful, HasLawfulDeps}
 use Rattle.lc_base.specs.declared.row.Row.{Row}
 use Rattle.lc_base.specs.declared.value.Value.{Value}
@@ -18,24 +18,27 @@ use Rattle.contract_semantics.specs.declared.site.CallSite.{CallSite}
 use Rattle.contract_semantics.specs.Answers.{IsFaithful}
 use Rattle.contract_semantics.specs.Calls.{call_result}
 use Rattle.contract_semantics.specs.Scenes.{Place, Scene, scene_of}
-use Rattle.contract_laws.specs.Laws.{IsOwnAndUnwritten}
-use Rattle.contract_laws.proofs.TheLaws.{reads_are_of_versions_before}
-use Rattle.contract_laws.proofs.EndsWell.{puts_are_own_and_unwritten}
+use Rattle.contract_semantics.specs.Laws.{IsOwnAndUnwritten}
+use Rattle.contract_semantics.proofs.TheLaws.{reads_are_of_versions_before}
+use Rattle.contract_semantics.proofs.EndsWell.{puts_are_own_and_unwritten}
 use Rattle.dep_capture.specs.declared.access.Put.{Put}
 use Rattle.block_codec.specs.declared.block.Tx.{Tx}
 use Rattle.block_codec.specs.declared.block.Tx.TheVariants.{Set, Deploy, Call}
 use Rattle.block_codec.specs.declared.block.Block.{Block}
 use Rattle.block_codec.specs.declared.limits.TheConstants.{MAX_TXS, MAX_ROWS_BEFORE_BLOCK}
 use Rattle.block_codec.specs.Spelling.{IsTx, IsBlock, text_limit}
-use Rattle.chain_replay.specs.chain_exec.BlockRows.{HasNewestDeps, AreTxRows, AreBlockRows}
-use Rattle.chain_replay.specs.chain_exec.Compiled.{Compiler}
-use Rattle.chain_replay.specs.chain_exec.Effect.{Codes, History, Effect, refused_effect, effect_of, is_written, meets_conflict, deps_on, is_taken_in, deploy_effect, code_in, call_effect}
-use Rattle.chain_replay.specs.chain_exec.Fold.{Staged, nothing_staged, with_effect, effects_after, block_effects}
-use Rattle.chain_replay.specs.chain_exec.Replay.{no_history, history_after}
-use Rattle.chain_replay.proofs.chain_exec.BlockSteps.{no_block_rows}
-use Rattle.chain_replay.proofs.chain_exec.TheLaws.{blocks_keep_lawful, blocks_keep_order, tested}
+use Rattle.chain_input.specs.chain_exec.BlockRows.{HasNewestDeps, AreTxRows, AreBlockRows}
+use Rattle.chain_input.specs.chain_exec.Compiled.{Compiler}
+use Rattle.chain_input.specs.chain_exec.Effect.{Codes, History, Effect, refused_effect, effect_of}
+use Rattle.chain_input.specs.chain_exec.Effect.{is_written, meets_conflict, deps_on, is_taken_in}
+use Rattle.chain_input.specs.chain_exec.Effect.{deploy_effect, code_in, call_effect}
+use Rattle.chain_input.specs.chain_exec.Fold.{Staged, nothing_staged, with_effect, effects_after}
+use Rattle.chain_input.specs.chain_exec.Fold.{block_effects}
+use Rattle.chain_input.specs.chain_exec.Replay.{no_history, history_after}
+use Rattle.chain_input.proofs.chain_exec.BlockSteps.{no_block_rows}
+use Rattle.chain_input.proofs.chain_exec.TheLaws.{blocks_keep_lawful, blocks_keep_order, tested}
 use Rattle.root_laws.specs.TypedLedger.{IsTypedRow, IsTypedHistory}
-use Rattle.chain_replay.proofs.chain_exec.TxRows.{no_rows}
+use Rattle.chain_input.proofs.chain_exec.TxRows.{no_rows}
 use Rattle.replay_soundness.specs.Literals.{AreFunctionsOfValues}
 use Rattle.replay_soundness.specs.TypedLaws.{AreCodesOfValues, CompilesValues, IsTypedBefore, BlocksAddTypedRows}
 use Rattle.replay_soundness.proofs.Calls.{calls_write_typed_rows}

@@ -6,9 +6,9 @@ use Rattle.lc_base.specs.declared.answer.Answer.{Answer}
 use Rattle.lc_base.specs.declared.answer.Answer.TheVariants.{Nothing}
 use Rattle.merkle_tree.specs.Clash.{Clash}
 use Rattle.block_codec.specs.Placement.{digest_of}
-use Rattle.replay_soundness.specs.chain_exec.Replay.{replay}
-use Rattle.proof_checks.proofs.Sound.{accepted_is_sound}
-use Rattle.proof_checks.specs.ProofTexts.{proof_texts}
+use Rattle.chain_input.specs.chain_exec.Replay.{replay}
+use Rattle.text_clashes.proofs.proof_checks.Sound.{accepted_is_sound}
+use Rattle.text_clashes.specs.proof_checks.ProofTexts.{proof_texts}
 use Rattle.text_clashes.specs.FirstClash.{IsFirstAt, IsFirstClash}
 use Rattle.replay_soundness.proofs.TypedChains.{replays_are_typed}
 use Rattle.replay_soundness.specs.Soundness.{replayed_answer, AcceptedProofsAnswerAsReplays, AcceptedProofsAnswerAsLogs, AcceptedAnswersAgree, NothingAndSomethingClash, ChainsWithOneRootAnswerAlike, WrongAnswersAreExposed, replayed_texts}

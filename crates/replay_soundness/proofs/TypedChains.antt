@@ -15,10 +15,10 @@ use Rattle.block_codec.specs.declared.block.Block.{Block}
 use Rattle.block_codec.specs.declared.placement.Placement.TheVariants.{Next}
 use Rattle.block_codec.proofs.Placements.{next_has_passed}
 use Rattle.block_codec.proofs.Versions.{few_with_next, last_version_of, most_of_all}
-use Rattle.chain_replay.specs.chain_exec.Compiled.{Compiler}
-use Rattle.chain_replay.specs.chain_exec.Replay.{history_after, replay}
-use Rattle.chain_replay.proofs.chain_exec.TheLaws.{replay_grows}
-use Rattle.chain_replay.specs.Chain.{placement_in}
+use Rattle.chain_input.specs.chain_exec.Compiled.{Compiler}
+use Rattle.chain_input.specs.chain_exec.Replay.{history_after, replay}
+use Rattle.chain_input.proofs.chain_exec.TheLaws.{replay_grows}
+use Rattle.chain_input.specs.chain_replay.Chain.{placement_in}
 use Rattle.replay_soundness.specs.TypedChains.{IsLawfulChain}
 use Rattle.replay_soundness.specs.TypedLaws.{CompilesValues, IsTypedBefore, ChainsOfValuesAreTyped, ReplaysAreTyped}
 use Rattle.replay_soundness.proofs.Compiling.{compilers_give_values}

@@ -5,9 +5,9 @@ use Rattle.block_codec.specs.Placement.{FitsVersions}
 use Rattle.block_codec.specs.Spelling.{Decoder, IsDecoder}
 use Rattle.block_codec.specs.declared.block.Block.{Block}
 use Rattle.block_log.specs.Standing.{Logged, next_block, chain_of}
-use Rattle.replay_soundness.specs.chain_exec.Compiled.{Compiler}
-use Rattle.replay_soundness.specs.chain_replay.Chain.{placement_by_mark, placement_in}
-use Rattle.replay_soundness.specs.chain_replay.Judging.{added_by_all}
+use Rattle.chain_input.specs.chain_exec.Compiled.{Compiler}
+use Rattle.chain_input.specs.chain_replay.Chain.{placement_by_mark, placement_in}
+use Rattle.chain_input.specs.chain_replay.Judging.{added_by_all}
 use Rattle.chain_input.specs.Folding.{fold_from, fold_input}
 use Rattle.replay_soundness.specs.TypedChains.{IsLawfulChain}
 

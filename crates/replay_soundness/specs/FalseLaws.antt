@@ -1,8 +1,8 @@
 -- Statements that are false: that replayed rows are a typed ledger, each with one premise left out.
 use Rattle.std.specs.List.{All}
 use Rattle.block_codec.specs.Spelling.{IsBlock}
-use Rattle.chain_replay.specs.chain_exec.Compiled.{IsCompiler}
-use Rattle.chain_replay.specs.Chain.{IsChain}
+use Rattle.chain_input.specs.chain_exec.Compiled.{IsCompiler}
+use Rattle.chain_input.specs.chain_replay.Chain.{IsChain}
 use Rattle.replay_soundness.specs.TypedChains.{IsLawfulChain}
 use Rattle.replay_soundness.specs.TypedLaws.{AreTypedWhere}
 

@@ -5,13 +5,13 @@ use Rattle.lc_base.specs.declared.row.Version.{Version}
 use Rattle.merkle_tree.specs.Clash.{Clash}
 use Rattle.block_codec.specs.Placement.{digest_of}
 use Rattle.block_codec.specs.declared.block.Block.{Block}
-use Rattle.replay_soundness.specs.chain_exec.Compiled.{Compiler}
-use Rattle.replay_soundness.specs.chain_exec.Replay.{replay}
-use Rattle.range_checks.specs.row_ranges.Ranges.{between}
-use Rattle.range_checks.specs.declared.range_proof.RangeProof.{RangeProof}
-use Rattle.range_checks.specs.Checks.{range_verdict}
-use Rattle.range_checks.specs.RangeTexts.{IsRangeProof, range_texts}
-use Rattle.range_checks.specs.Soundness.{RangesOrClashes}
+use Rattle.chain_input.specs.chain_exec.Compiled.{Compiler}
+use Rattle.chain_input.specs.chain_exec.Replay.{replay}
+use Rattle.root_laws.specs.Ranges.{between}
+use Rattle.text_clashes.specs.proof_checks.declared.range_proof.RangeProof.{RangeProof}
+use Rattle.text_clashes.specs.proof_checks.RangeChecks.{range_verdict}
+use Rattle.text_clashes.specs.proof_checks.RangeTexts.{IsRangeProof, range_texts}
+use Rattle.text_clashes.specs.proof_checks.RangeSoundness.{RangesOrClashes}
 use Rattle.replay_soundness.specs.Soundness.{HasRoot, replayed_texts}
 
 -- All versions of a key between two blocks, by replaying the blocks and taking their rows up to the

@@ -11,16 +11,16 @@ use Rattle.block_codec.specs.Placement.{digest_of}
 use Rattle.block_codec.specs.Spelling.{Decoder, IsDecoder}
 use Rattle.block_codec.specs.declared.block.Block.{Block}
 use Rattle.block_log.specs.Standing.{Logged, next_block, chain_of}
-use Rattle.replay_soundness.specs.chain_exec.Compiled.{Compiler, IsCompiler}
-use Rattle.replay_soundness.specs.chain_exec.Replay.{replay}
-use Rattle.replay_soundness.specs.chain_replay.Chain.{placement_by_mark}
+use Rattle.chain_input.specs.chain_exec.Compiled.{Compiler, IsCompiler}
+use Rattle.chain_input.specs.chain_exec.Replay.{replay}
+use Rattle.chain_input.specs.chain_replay.Chain.{placement_by_mark}
 use Rattle.rooted_chain.specs.Roots.{root_in}
-use Rattle.proof_checks.specs.proof_codec.declared.proof.Proof.{Proof}
-use Rattle.proof_checks.specs.proof_codec.Spelling.{IsProof}
-use Rattle.proof_checks.specs.Checks.{verdict}
-use Rattle.proof_checks.specs.ProofTexts.{proof_texts}
-use Rattle.proof_checks.specs.LedgerTexts.{ledger_texts}
-use Rattle.proof_checks.specs.Soundness.{AnswersOrClashes}
+use Rattle.proof_codec.specs.declared.proof.Proof.{Proof}
+use Rattle.proof_codec.specs.Spelling.{IsProof}
+use Rattle.text_clashes.specs.proof_checks.Checks.{verdict}
+use Rattle.text_clashes.specs.proof_checks.ProofTexts.{proof_texts}
+use Rattle.text_clashes.specs.proof_checks.LedgerTexts.{ledger_texts}
+use Rattle.text_clashes.specs.proof_checks.Soundness.{AnswersOrClashes}
 use Rattle.text_clashes.specs.FirstClash.{IsFirstAt, IsFirstClash}
 use Rattle.replay_soundness.specs.TypedChains.{IsLawfulChain}
 

@@ -5,14 +5,14 @@ use Rattle.lc_base.specs.History.{up_to}
 use Rattle.merkle_tree.specs.Clash.{Clash}
 use Rattle.block_codec.specs.Placement.{digest_of}
 use Rattle.block_codec.specs.declared.block.Block.{Block}
-use Rattle.replay_soundness.specs.chain_exec.Compiled.{Compiler}
-use Rattle.replay_soundness.specs.chain_exec.Replay.{replay}
-use Rattle.row_ancestors.specs.declared.trace.Trace.{Trace}
-use Rattle.row_ancestors.specs.Ancestors.{trace_at}
-use Rattle.trace_checks.specs.declared.trace_proof.TraceProof.{TraceProof}
-use Rattle.trace_checks.specs.Checks.{trace_verdict}
-use Rattle.trace_checks.specs.TraceTexts.{IsTraceProof, trace_texts}
-use Rattle.trace_checks.specs.Soundness.{TracesOrClashes}
+use Rattle.chain_input.specs.chain_exec.Compiled.{Compiler}
+use Rattle.chain_input.specs.chain_exec.Replay.{replay}
+use Rattle.root_laws.specs.declared.trace.Trace.{Trace}
+use Rattle.root_laws.specs.Ancestors.{trace_at}
+use Rattle.text_clashes.specs.proof_checks.declared.trace_proof.TraceProof.{TraceProof}
+use Rattle.text_clashes.specs.proof_checks.TraceChecks.{trace_verdict}
+use Rattle.text_clashes.specs.proof_checks.TraceTexts.{IsTraceProof, trace_texts}
+use Rattle.text_clashes.specs.proof_checks.TraceSoundness.{TracesOrClashes}
 use Rattle.replay_soundness.specs.Soundness.{HasRoot, replayed_texts}
 
 -- The last version of a key up to a block, with its ancestors, by replaying the blocks and taking

@@ -1,7 +1,7 @@
 -- Laws of what calls, blocks and replays write: typed histories stay typed.
 use Rattle.std.specs.Prelude.{ℕ, ◌^◌, ◌<◌, Bool, List, length, map, IfSome}
 use Rattle.std.specs.List.{All}
-use Rattle.lc_names.specs.KeyBytes.{IsKey}
+use Rattle.lc_base.specs.KeyBytes.{IsKey}
 use Rattle.lc_base.specs.declared.row.Row.{Row}
 use Rattle.lc_base.specs.declared.value.Value.{Value}
 use Rattle.byte_fields.specs.Spelling.{IsValue}
@@ -14,11 +14,11 @@ use Rattle.world_state.specs.Rows.{held_in}
 use Rattle.block_codec.specs.Spelling.{IsBlock}
 use Rattle.block_codec.specs.Placement.{digest_of}
 use Rattle.block_codec.specs.declared.block.Block.{Block}
-use Rattle.chain_replay.specs.chain_exec.BlockRows.{AreBlockRows}
-use Rattle.chain_replay.specs.chain_exec.Compiled.{Compiler, IsCompiler}
-use Rattle.chain_replay.specs.chain_exec.Effect.{Codes, History}
-use Rattle.chain_replay.specs.chain_exec.Fold.{block_effects}
-use Rattle.chain_replay.specs.chain_exec.Replay.{replay}
+use Rattle.chain_input.specs.chain_exec.BlockRows.{AreBlockRows}
+use Rattle.chain_input.specs.chain_exec.Compiled.{Compiler, IsCompiler}
+use Rattle.chain_input.specs.chain_exec.Effect.{Codes, History}
+use Rattle.chain_input.specs.chain_exec.Fold.{block_effects}
+use Rattle.chain_input.specs.chain_exec.Replay.{replay}
 use Rattle.root_laws.specs.TypedLedger.{IsTypedRow, IsTypedHistory, IsTypedLedger}
 use Rattle.replay_soundness.specs.TypedChains.{IsLawfulChain}
 use Rattle.replay_soundness.specs.Literals.{AreFunctionsOfValues}

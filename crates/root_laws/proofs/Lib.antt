@@ -8,4 +8,15 @@ pub mod ClosedLists
 pub mod Walking
 pub mod Parts
 pub mod Spellings
-pub use Rattle.skip_links.proofs as skip_links
+pub mod Order
+pub mod Places
+pub mod Inserting
+pub mod Versions
+pub mod Enough
+pub mod Reaching
+pub mod FewAncestorSteps
+pub mod Kept
+pub mod UpTo
+pub mod Ends
+pub mod FewRangeSteps
+pub use Rattle.prov_entry.proofs.merkle_tree as merkle_tree

@@ -7,7 +7,7 @@ use Rattle.std.proofs.lemmas.List.Kept.{AllPairs-filter}
 use Rattle.lc_base.specs.declared.row.Row.{Row}
 use Rattle.lc_base.specs.declared.row.Dep.{Dep}
 use Rattle.lc_base.specs.History.{IsLawful, HasLawfulDeps, StandsBefore, below, up_to, newest}
-use Rattle.root_laws.proofs.skip_links.Towers.{filter_twice}
+use Rattle.skip_links.proofs.Towers.{filter_twice}
 use Rattle.root_laws.proofs.Lists.{all_weaker, all_both}
 use Rattle.root_laws.specs.TypedLedger.{IsTypedRow}
 use Rattle.root_laws.specs.TypedLaws.{PartsAreTyped, BlocksAreTyped}

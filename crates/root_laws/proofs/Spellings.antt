@@ -7,16 +7,17 @@ use Rattle.std.proofs.lemmas.List.{length-map, length-replicate, get_or-map}
 use Rattle.std.proofs.lemmas.List.Elements.{recursion_from_All, Contains-get_or}
 use Rattle.std.proofs.lemmas.List.Folds.{list_any_at}
 use Rattle.sha2.proofs.Facts256.{length-sha256}
-use Rattle.lc_base.specs.lc_names.KeyBytes.{IsKey}
+use Rattle.lc_base.specs.KeyBytes.{IsKey}
 use Rattle.lc_base.specs.declared.digest.Digest.{Digest}
 use Rattle.lc_base.specs.declared.row.Row.{Row}
 use Rattle.lc_base.specs.declared.row.Dep.{Dep}
 use Rattle.lc_base.specs.History.{IsLawful, HasLawfulDeps, below, up_to, newest, uses, depends_on, version_of}
-use Rattle.root_laws.specs.skip_links.Links.{height_to, height, is_at_level, link, links}
-use Rattle.root_laws.specs.skip_links.declared.limits.TheConstants.{MAX_LEVEL}
-use Rattle.root_laws.specs.prov_entry.declared.entry.Leaf.{Leaf}
-use Rattle.root_laws.specs.prov_entry.Spelling.{IsLink, IsHeader, IsBodyDep, IsBody, IsKeyIfAny, IsLeaf, body_text}
-use Rattle.root_laws.specs.prov_entry.ForwardLists.{start_text, no_uses, use_text, with_use, uses_digest}
+use Rattle.skip_links.specs.Links.{height_to, height, is_at_level, link, links}
+use Rattle.skip_links.specs.declared.limits.TheConstants.{MAX_LEVEL}
+use Rattle.prov_entry.specs.declared.entry.Leaf.{Leaf}
+use Rattle.prov_entry.specs.Spelling.{IsLink, IsHeader, IsBodyDep, IsBody, IsKeyIfAny, IsLeaf}
+use Rattle.prov_entry.specs.Spelling.{body_text}
+use Rattle.prov_entry.specs.ForwardLists.{start_text, no_uses, use_text, with_use, uses_digest}
 use Rattle.root_laws.specs.Naming.{uses_of, closed_uses, header_of, body_of, body_among, named_before, with_digest, link_among}
 use Rattle.root_laws.specs.NamingLaws.{IsToOlder, IsOnOlder, NamesHeader}
 use Rattle.root_laws.specs.WalkLaws.{text_of_row}

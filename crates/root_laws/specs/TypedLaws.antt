@@ -4,7 +4,7 @@ use Rattle.std.specs.List.{All}
 use Rattle.lc_base.specs.declared.digest.Digest.{Digest}
 use Rattle.lc_base.specs.declared.row.Row.{Row}
 use Rattle.lc_base.specs.History.{up_to}
-use Rattle.root_laws.specs.prov_entry.Spelling.{IsHeader, IsBody, IsLeaf}
+use Rattle.prov_entry.specs.Spelling.{IsHeader, IsBody, IsLeaf}
 use Rattle.root_laws.specs.Naming.{header_of, body_of}
 use Rattle.root_laws.specs.Root.{leaves, digest_at}
 use Rattle.root_laws.specs.TypedLedger.{IsTypedHistory, IsTypedLedger}

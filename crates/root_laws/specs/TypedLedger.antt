@@ -2,11 +2,11 @@
 -- numbers and lists, which may be anything; what a program keeps is always within its types.
 use Rattle.std.specs.Prelude.{◌≡◌, ◌^◌, ◌<◌, List, length}
 use Rattle.std.specs.List.{All}
-use Rattle.lc_base.specs.lc_names.KeyBytes.{IsKey}
+use Rattle.lc_base.specs.KeyBytes.{IsKey}
 use Rattle.lc_base.specs.declared.digest.Digest.{Digest}
 use Rattle.lc_base.specs.declared.row.Row.{Row}
 use Rattle.lc_base.specs.History.{IsLawful}
-use Rattle.byte_fields.specs.Spelling.{IsValue}
+use Rattle.prov_entry.specs.byte_fields.Spelling.{IsValue}
 
 -- A key, a block number of 32 bits, the index of a transaction in 16 bits, and a value.
 -- Dependencies are on rows of a lawful history, so their keys and blocks are within their types

@@ -2,7 +2,7 @@
 //! know it.
 
 ghost use Rattle.std.specs.{Prelude.{◌^◌, ◌<◌, FitsSigned}, Int.{w64}};
-ghost use Rattle.byte_fields.specs.Spelling.{IsValue};
+ghost use Rattle.prov_entry.specs.byte_fields.Spelling.{IsValue};
 ghost use Rattle.root_laws.specs.TypedLedger.{IsTypedRow};
 
 use lc_base::{Row, Value};

@@ -12,7 +12,7 @@ use Rattle.world_state.specs.World.{newest_of, StandsForRows}
 use Rattle.chain_replay.specs.chain_exec.BlockRows.{AreBlockRows}
 use Rattle.chain_replay.specs.Chain.{HasRoom, IsKeptChain}
 use Rattle.chain_replay.proofs.Kept.{next_lawful, next_kept}
-use Rattle.lineage_host.specs.merkle_dag.Lineage.{LineageState}
+use Rattle.prov_query.specs.merkle_dag.Lineage.{LineageState}
 use Rattle.rooted_chain.specs.Roots.{RootedState, kept_in}
 
 -- what a chain keeps, by its parts

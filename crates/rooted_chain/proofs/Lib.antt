@@ -1,4 +1,4 @@
 pub mod Rooted
 pub mod HasRun
 pub use Rattle.chain_replay.proofs as chain_replay
-pub use Rattle.lineage_host.proofs.merkle_dag as merkle_dag
+pub use Rattle.prov_query.proofs.merkle_dag as merkle_dag

@@ -11,7 +11,7 @@ use Rattle.chain_replay.specs.chain_exec.Compiled.{Compiler, compiled_in}
 use Rattle.chain_replay.specs.chain_exec.Replay.{replay}
 use Rattle.chain_replay.specs.Chain.{ChainState, StandsFor, placement_in}
 use Rattle.root_laws.specs.Root.{root_of}
-use Rattle.lineage_host.specs.merkle_dag.Lineage.{LineageState}
+use Rattle.prov_query.specs.merkle_dag.Lineage.{LineageState}
 
 -- What is kept of a chain with its lineage: the digests of its blocks, their rows, the contracts
 -- that they deployed, by name, and where the bodies of the rows are kept.

@@ -6,19 +6,17 @@ ghost use Rattle.block_codec.specs.{
   declared.limits.TheConstants.{MAX_MARKED_BLOCKS},
   declared.block.Block.{Block as Blocks},
 };
-ghost use Rattle.chain_replay.specs.chain_exec.Compiled.{compiled_in};
-ghost use Rattle.chain_replay.specs.Chain.{StandsFor};
+ghost use Rattle.chain_replay.specs.{chain_exec.Compiled.{compiled_in}, Chain.{StandsFor}};
 ghost use Rattle.root_laws.specs.Root.{root_of};
-ghost use Rattle.lineage_host.specs.merkle_dag.Lineage.{AgreesWith};
+ghost use Rattle.prov_query.specs.merkle_dag.Lineage.{AgreesWith};
 ghost use Rattle.rooted_chain.specs.Roots.{kept_in, lineage_in, root_in};
 
 use block_codec::{Block, NO_PARENT, Placement, place};
 use chain_replay::Replay;
 use contract_check::Checked;
-use lc_base::{Digest, HostError, Memory};
-use lineage_host::Lineage;
-use resources::Resources;
-use scratch_model::Scratch;
+use lc_base::{Digest, HostError, Memory, Resources};
+use lc_io::Scratch;
+use prov_query::Lineage;
 use std::alloc::Global;
 use std::marker::Model;
 use world_state::World;

@@ -6,13 +6,15 @@ ghost use Rattle.lc_base.specs.{
   Faults.{HasCause},
   declared.host_error.HostError.TheVariants.{Fault},
 };
-ghost use Rattle.scratch_model.specs.Scratch.{is_known, Retains};
+ghost use Rattle.lc_io.specs.Scratch.{is_known, Retains};
 ghost use Rattle.dep_capture.specs.declared.limits.TheConstants.{MAX_KEYS_PUT};
 ghost use Rattle.block_codec.specs.Spelling.{IsBlock};
-ghost use Rattle.chain_replay.specs.chain_exec.Compiled.{compiled_in};
-ghost use Rattle.chain_replay.specs.Chain.{HasRoom, IsAfter, StandsFor};
+ghost use Rattle.chain_replay.specs.{
+  chain_exec.Compiled.{compiled_in},
+  Chain.{HasRoom, IsAfter, StandsFor},
+};
 ghost use Rattle.root_laws.specs.Root.{root_of};
-ghost use Rattle.lineage_host.specs.merkle_dag.Lineage.{AgreesWith};
+ghost use Rattle.prov_query.specs.merkle_dag.Lineage.{AgreesWith};
 ghost use Rattle.rooted_chain.specs.Roots.{kept_in, lineage_in, root_in, IsSoWithNext};
 
 use crate::chain::{LineageChain, discard};
@@ -20,7 +22,7 @@ use crate::running::run_next;
 use block_codec::Block;
 use chain_replay::BlockRun;
 use lc_base::{Digest, HostError, Memory};
-use scratch_model::Scratch;
+use lc_io::Scratch;
 use std::alloc::Global;
 
 impl LineageChain {

@@ -7,4 +7,4 @@ mod running;
 
 pub use chain::LineageChain;
 pub use chain_replay::{Chain, Judged, Marking, ReceiptList, Refusal, Replay};
-pub use lineage_host::Lineage;
+pub use prov_query::{Lineage, QueryError, ask};

@@ -1,7 +1,7 @@
 //! Running a block over a lineage, whose bodies are read from the device.
 
 ghost use Rattle.std.specs.Prelude.{◌≡◌, true, [], length, map, IfOk, OnOk, IsErrOf};
-ghost use Rattle.scratch_model.specs.Scratch.{is_known};
+ghost use Rattle.lc_io.specs.Scratch.{is_known};
 ghost use Rattle.block_codec.specs.Spelling.{IsBlock};
 ghost use Rattle.world_state.specs.{Rows.{entry_of}, World.{newest_of, StandsForRows}};
 ghost use Rattle.chain_replay.specs.chain_exec.{
@@ -11,14 +11,14 @@ ghost use Rattle.chain_replay.specs.chain_exec.{
   Running.{history_in, staged_in},
 };
 ghost use Rattle.lc_base.specs.declared.host_error.HostError.TheVariants.{Fault};
-ghost use Rattle.lineage_host.specs.merkle_dag.Lineage.{AgreesWith, LeavesLineage};
+ghost use Rattle.prov_query.specs.merkle_dag.Lineage.{AgreesWith, LeavesLineage};
 
 use block_codec::Block;
 use chain_replay::{BlockRun, run_block};
 use contract_check::Checked;
 use lc_base::HostError;
-use lineage_host::{Lineage, Reading};
-use scratch_model::Scratch;
+use lc_io::Scratch;
+use prov_query::{Lineage, Reading};
 use std::alloc::Global;
 use world_state::World;
 

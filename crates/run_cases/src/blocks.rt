@@ -14,8 +14,7 @@ use block_codec::{
 use chain_exec::BlockRun;
 use chain_replay::{Chain, Marking, Replay};
 use cli_lines::answer_lines;
-use lc_base::{Answer, Bytes, Digest, Kind, Memory, Query, Row, RowList, Seq};
-use resources::Resources;
+use lc_base::{Answer, Bytes, Digest, Kind, Memory, Query, Resources, Row, RowList, Seq};
 use std::alloc::Global;
 use std::io::Write;
 

@@ -5,7 +5,7 @@ use crate::streams::{bytes_of, machine_of, scratch_of, source_of};
 use anyhow::{Context, Result};
 use chain_cli::run::run;
 use disk_model::MemMachine;
-use resources::Resources;
+use lc_base::Resources;
 use std::alloc::Global;
 use std::io::Write;
 

@@ -5,7 +5,7 @@ use crate::command::{Case, print_held, print_piece, run_case, words_of};
 use crate::streams::bytes_of;
 use anyhow::{Context, Result, bail, ensure};
 use disk_model::MemMachine;
-use resources::Resources;
+use lc_base::Resources;
 use std::alloc::Global;
 use std::io::Write;
 

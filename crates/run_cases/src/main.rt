@@ -14,7 +14,7 @@ use crate::command::{Case, Failing, run_command};
 use crate::crashes::run_crashes;
 use crate::trees::run_tree;
 use anyhow::{Context, Result};
-use resources::{Resources, Zeros};
+use lc_base::{Resources, Zeros};
 use std::io::{self, BufRead, BufReader, BufWriter, Write};
 
 /// The prefix of a case whose blocks are run one by one.

@@ -7,8 +7,7 @@ ghost use Rattle.disk_model.specs.{Disk.{IsSettled}, Machine.{disk_of, now_of}};
 
 use anyhow::{Context, Result};
 use disk_model::MemMachine;
-use lc_io::{Failed, MemSource, Room, Source};
-use scratch_model::MemScratch;
+use lc_io::{Failed, MemScratch, MemSource, Room, Source};
 use std::alloc::Global;
 
 /// Room for the calls of a case, and for what it prints and writes.

@@ -8,4 +8,3 @@ pub mod LinkTowers
 pub mod OneList
 pub mod Counting
 pub use Rattle.entry_store.proofs as entry_store
-pub use Rattle.skip_links.proofs as skip_links

@@ -4,4 +4,3 @@ pub mod Climbing
 pub mod LookedAt
 pub mod Examples
 pub use Rattle.entry_store.specs as entry_store
-pub use Rattle.skip_links.specs as skip_links

@@ -9,7 +9,7 @@ mod path;
 mod rung;
 
 pub use climbing::links_for;
-pub use entry_store::{Counter, EntryId, EntryList, Steps, Store};
+pub use entry_store::{Counter, EntryId, EntryList, Facts, Steps, Store};
 pub use examples::{far_heights, low_heights};
 pub use laws::{new_entry_is_towered, towered_entries_stay_towered, versions_are_determined};
 pub use lookup::{Turn, find, path_next};

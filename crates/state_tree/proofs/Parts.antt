@@ -4,10 +4,10 @@ use Rattle.std.specs.Prelude.{slice_get}
 use Rattle.std.proofs.lemmas.List.{length-take-le, length-drop, get_or-drop, drop-take}
 use Rattle.std.proofs.lemmas.Option.{get_or_from_slice_get}
 use Rattle.sha2.specs.Sha256.{sha256}
-use Rattle.merkle_tree.specs.Tree.{leaf_text, node_hash, hash_to}
-use Rattle.merkle_tree.proofs.Steps.{no_leaf, one_leaf, two_parts, low_part}
-use Rattle.prov_entry.specs.declared.entry.Leaf.{Leaf}
-use Rattle.prov_entry.specs.Spelling.{leaf_bytes}
+use Rattle.root_laws.specs.merkle_tree.Tree.{leaf_text, node_hash, hash_to}
+use Rattle.root_laws.proofs.merkle_tree.Steps.{no_leaf, one_leaf, two_parts, low_part}
+use Rattle.root_laws.specs.prov_entry.declared.entry.Leaf.{Leaf}
+use Rattle.root_laws.specs.prov_entry.Spelling.{leaf_bytes}
 use Rattle.state_tree.specs.Leaves.{leaf_texts}
 
 abbrev text : Leaf → List ℕ

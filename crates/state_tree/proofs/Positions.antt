@@ -8,7 +8,7 @@ use Rattle.std.proofs.lemmas.List.Quantifiers.{position-Some}
 use Rattle.std.proofs.lemmas.Option.{slice_get-get_or}
 use Rattle.std.proofs.lemmas.Iterator.Adapters.{position_from-zero}
 use Rattle.std.proofs.lemmas.Slice.Eq.{bytes_eq-Decides}
-use Rattle.prov_entry.specs.declared.entry.Leaf.{Leaf}
+use Rattle.root_laws.specs.prov_entry.declared.entry.Leaf.{Leaf}
 use Rattle.root_laws.proofs.Lists.{not_both}
 use Rattle.state_tree.specs.Leaves.{is_this, index_of}
 

@@ -8,13 +8,13 @@ use Rattle.std.specs.BTreeMap.{BTreeMap}
 use Rattle.std.proofs.lemmas.Bool.{cases_lt}
 use Rattle.std.proofs.lemmas.List.{map-append, map-set, length-map, length-set, length-append, get_or-map, get_or_append_left, get_or-set_same, get_or-set_other, get_or_default}
 use Rattle.std.proofs.lemmas.Option.{slice_get-get_or}
-use Rattle.prov_entry.specs.declared.entry.Leaf.{Leaf}
-use Rattle.prov_entry.specs.Spelling.{key_or_empty}
+use Rattle.root_laws.specs.prov_entry.declared.entry.Leaf.{Leaf}
+use Rattle.root_laws.specs.prov_entry.Spelling.{key_or_empty}
 use Rattle.root_laws.specs.Root.{is_below, next_key, sentinel}
 use Rattle.state_tree.specs.Leaves.{leaf_key, leaf_keys, is_this, index_of, with_next, thread_leaves, fresh_leaf, with_leaf_of, with_leaf_after, AreApart}
 use Rattle.state_tree.specs.Covering.{Covers}
 use Rattle.state_tree.specs.Order.{kept_for, AreInOrder}
-use Rattle.merkle_tree.specs.declared.limits.TheConstants.{MAX_LEAVES}
+use Rattle.root_laws.specs.merkle_tree.declared.limits.TheConstants.{MAX_LEAVES}
 use Rattle.root_laws.proofs.Lists.{not_both}
 use Rattle.root_laws.proofs.NextKeys.{order}
 use Rattle.state_tree.proofs.Keys.{IsCovering, next_of_cover, next_of_new, next_stays}

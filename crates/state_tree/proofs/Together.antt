@@ -10,11 +10,11 @@ use Rattle.std.proofs.lemmas.List.Folds.{list_any_at}
 use Rattle.std.proofs.lemmas.List.Elements.{All-nil, All-cons, All-map, All-append, All-head, All-tail, All-weaker, Contains-append_left, Contains-append_right}
 use Rattle.std.proofs.lemmas.Option.{slice_get-get_or, slice_get_within, get_or_from_slice_get}
 use Rattle.lc_base.specs.declared.digest.Digest.{Digest}
-use Rattle.merkle_tree.specs.Tree.{leaf_text}
-use Rattle.merkle_tree.specs.Levels.{digest_of, is_set, IsOwn, Renews}
-use Rattle.merkle_tree.specs.declared.setting_all.HashAt.{HashAt}
-use Rattle.prov_entry.specs.declared.entry.Leaf.{Leaf}
-use Rattle.prov_entry.specs.Spelling.{leaf_bytes}
+use Rattle.root_laws.specs.merkle_tree.Tree.{leaf_text}
+use Rattle.root_laws.specs.merkle_tree.Levels.{digest_of, is_set, IsOwn, Renews}
+use Rattle.root_laws.specs.merkle_tree.declared.setting_all.HashAt.{HashAt}
+use Rattle.root_laws.specs.prov_entry.declared.entry.Leaf.{Leaf}
+use Rattle.root_laws.specs.prov_entry.Spelling.{leaf_bytes}
 use Rattle.root_laws.specs.Root.{sentinel}
 use Rattle.state_tree.specs.declared.states.LeafState.{LeafState}
 use Rattle.state_tree.specs.Leaves.{fresh_leaf, state_of_leaf, leaf_with_state, with_leaf_after, with_state, with_states, indexes_of, leaf_texts, leaf_hashes}

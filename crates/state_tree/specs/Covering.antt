@@ -1,6 +1,6 @@
 -- The leaf that covers a key: its own, or else the leaf after which it would be threaded.
 use Rattle.std.specs.Prelude.{◌≡◌, true, false, ℕ, List, Contains, Some, slice_get}
-use Rattle.prov_entry.specs.declared.entry.Leaf.{Leaf}
+use Rattle.root_laws.specs.prov_entry.declared.entry.Leaf.{Leaf}
 use Rattle.root_laws.specs.Root.{is_below}
 use Rattle.state_tree.specs.Leaves.{leaf_key}
 

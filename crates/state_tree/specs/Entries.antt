@@ -2,8 +2,8 @@
 use Rattle.std.specs.Prelude.{◌==◌, ◌≤◌, ◌<◌, ◌-◌, ℕ, if◌then◌else◌, List, [], ◌∷◌, length, map, replicate, slice_get, slice_index_or, Option, Some, None}
 use Rattle.std.specs.List.{All}
 use Rattle.std.specs.Map.{keys_of}
-use Rattle.merkle_tree.specs.declared.limits.TheConstants.{MAX_LEAVES}
-use Rattle.prov_entry.specs.declared.entry.Leaf.{Leaf}
+use Rattle.root_laws.specs.merkle_tree.declared.limits.TheConstants.{MAX_LEAVES}
+use Rattle.root_laws.specs.prov_entry.declared.entry.Leaf.{Leaf}
 use Rattle.root_laws.specs.Naming.{digest_of_uses}
 use Rattle.root_laws.specs.Root.{sentinel}
 use Rattle.state_tree.specs.declared.states.LeafState.{LeafState}

@@ -1,6 +1,6 @@
 -- A law of leaves that cover a key.
 use Rattle.std.specs.Prelude.{◌≡◌, ℕ, List}
-use Rattle.prov_entry.specs.declared.entry.Leaf.{Leaf}
+use Rattle.root_laws.specs.prov_entry.declared.entry.Leaf.{Leaf}
 use Rattle.state_tree.specs.Leaves.{leaf_keys, AreApart}
 use Rattle.state_tree.specs.Covering.{Covers}
 

@@ -3,10 +3,10 @@ use Rattle.std.specs.Prelude.{◌≡◌, ◌==◌, ◌<◌, ℕ, Bool, false, Li
 use Rattle.std.specs.List.{fold}
 use Rattle.std.specs.Cmp.Lexicographic.{pointwise}
 use Rattle.lc_base.specs.declared.digest.Digest.{Digest}
-use Rattle.merkle_tree.specs.Tree.{leaf_text}
-use Rattle.merkle_tree.specs.Levels.{digest_of}
-use Rattle.prov_entry.specs.declared.entry.Leaf.{Leaf}
-use Rattle.prov_entry.specs.Spelling.{key_or_empty, leaf_bytes}
+use Rattle.root_laws.specs.merkle_tree.Tree.{leaf_text}
+use Rattle.root_laws.specs.merkle_tree.Levels.{digest_of}
+use Rattle.root_laws.specs.prov_entry.declared.entry.Leaf.{Leaf}
+use Rattle.root_laws.specs.prov_entry.Spelling.{key_or_empty, leaf_bytes}
 use Rattle.root_laws.specs.Naming.{digest_of_uses}
 use Rattle.root_laws.specs.Root.{next_key, sentinel}
 use Rattle.state_tree.specs.declared.states.LeafState.{LeafState}

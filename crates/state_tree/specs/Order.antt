@@ -5,12 +5,12 @@ use Rattle.std.specs.Ordering.{nat_cmp}
 use Rattle.std.specs.Cmp.Lexicographic.{slice_cmp}
 use Rattle.std.specs.BTreeMap.{BTreeMap, get}
 use Rattle.lc_base.specs.declared.digest.Digest.{Digest}
-use Rattle.merkle_tree.specs.declared.setting_all.HashAt.{HashAt}
-use Rattle.merkle_tree.specs.Levels.{digest_of}
-use Rattle.prov_entry.specs.declared.entry.Leaf.{Leaf}
+use Rattle.root_laws.specs.merkle_tree.declared.setting_all.HashAt.{HashAt}
+use Rattle.root_laws.specs.merkle_tree.Levels.{digest_of}
+use Rattle.root_laws.specs.prov_entry.declared.entry.Leaf.{Leaf}
 use Rattle.root_laws.specs.Root.{is_below}
 use Rattle.state_tree.specs.Leaves.{index_of, thread_leaves, leaf_keys, leaf_hashes, AreApart}
-use Rattle.merkle_tree.specs.declared.limits.TheConstants.{MAX_LEAVES}
+use Rattle.root_laws.specs.merkle_tree.declared.limits.TheConstants.{MAX_LEAVES}
 
 -- The index that is kept for a key.
 abbrev pub kept_for : BTreeMap (List ℕ) ℕ → List ℕ → Option ℕ

@@ -1,10 +1,29 @@
 //! Adding a leaf is all or nothing. Its hash, and that of the leaf that names its key, are made
 //! later.
 
-ghost use Rattle.std.specs.Prelude.{◌≡◌, ◌≢◌, ◌<◌, ◌≤◌, ◌∷◌, [], ◌++◌, ℕ, List, length, take, slice_get, Some, None, OnOk, OnErr};
-ghost use Rattle.lc_names.specs.KeyBytes.{IsKey};
-ghost use Rattle.merkle_tree.specs.declared.limits.TheConstants.{MAX_LEAVES};
-ghost use Rattle.prov_entry.specs.declared.entry.Leaf.{Leaf};
+ghost use Rattle.std.specs.Prelude.{
+  ◌≡◌,
+  ◌≢◌,
+  ◌<◌,
+  ◌≤◌,
+  ◌∷◌,
+  [],
+  ◌++◌,
+  ℕ,
+  List,
+  length,
+  take,
+  slice_get,
+  Some,
+  None,
+  OnOk,
+  OnErr,
+};
+ghost use Rattle.lc_base.specs.KeyBytes.{IsKey};
+ghost use Rattle.root_laws.specs.{
+  merkle_tree.declared.limits.TheConstants.{MAX_LEAVES},
+  prov_entry.declared.entry.Leaf.{Leaf},
+};
 ghost use Rattle.state_tree.specs.{Leaves.{index_of, with_leaf_after}, Order.{kept_for}};
 
 use crate::threaded::ThreadedLeaves;

@@ -1,18 +1,17 @@
 //! The hashes of leaves: only those that are stale are made again.
 
 ghost use Rattle.std.specs.{Prelude.{◌≡◌, ◌<◌, ◌≤◌, ℕ, length, map, OnOk, OnErr, IfOk}, List.{All}};
-ghost use Rattle.prov_entry.specs.Spelling.{leaf_bytes, IsKeyIfAny};
-ghost use Rattle.merkle_tree.specs.{
-  Tree.{leaf_text},
-  Levels.{digest_of},
-  declared.limits.TheConstants.{MAX_LEAVES},
+ghost use Rattle.root_laws.specs.{
+  prov_entry.Spelling.{leaf_bytes, IsKeyIfAny},
+  merkle_tree.Tree.{leaf_text},
+  merkle_tree.Levels.{digest_of},
+  merkle_tree.declared.limits.TheConstants.{MAX_LEAVES},
 };
 ghost use Rattle.state_tree.specs.{Leaves.{leaf_hashes}, Order.{AreHashedBut, hash_at}};
 
 use crate::threaded::ThreadedLeaves;
 use lc_base::{Digest, Memory};
-use merkle_tree::{HashAt, Levels};
-use prov_entry::{Leaf, leaf_digest};
+use root_laws::{HashAt, Leaf, Levels, leaf_digest};
 use std::alloc::Global;
 
 /// The hash of a leaf (RFC 6962, section 2.1). It takes no memory.

@@ -5,7 +5,7 @@ ghost use Rattle.std.specs.{
   Prelude.{◌≡◌, ◌<◌, ◌≤◌, ◌++◌, ℕ, List, length, map, reverse, vec_len, vec_capacity, OnOk, OnErr, IfOk},
   List.{All, Contains},
 };
-ghost use Rattle.merkle_tree.specs.declared.limits.TheConstants.{MAX_LEAVES};
+ghost use Rattle.root_laws.specs.merkle_tree.declared.limits.TheConstants.{MAX_LEAVES};
 ghost use Rattle.state_tree.specs.{
   declared.states.LeafState.{LeafState},
   Leaves.{with_states, indexes_of, leaf_hashes},
@@ -16,7 +16,7 @@ use crate::hashing::hash_leaves;
 use crate::states::LeafState;
 use crate::threaded::ThreadedLeaves;
 use lc_base::Memory;
-use merkle_tree::Levels;
+use root_laws::Levels;
 use std::alloc::Global;
 
 /// Sets the states of some leaves, one after another, and returns their states before. Out of

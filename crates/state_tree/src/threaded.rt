@@ -1,13 +1,33 @@
 //! The leaves as they are kept: each key once, in the order in which keys were added, and with it
 //! the index of the leaf whose key is the next greater one.
 
-ghost use Rattle.std.specs.Prelude.{◌≡◌, ◌==◌, ◌<◌, ◌≤◌, ◌+◌, ◌∷◌, ◌++◌, [], ℕ, List, length, slice_get, slice_set, Some, None, OnOk, OnErr};
+ghost use Rattle.std.specs.Prelude.{
+  ◌≡◌,
+  ◌==◌,
+  ◌<◌,
+  ◌≤◌,
+  ◌+◌,
+  ◌∷◌,
+  ◌++◌,
+  [],
+  ℕ,
+  List,
+  length,
+  slice_get,
+  slice_set,
+  Some,
+  None,
+  OnOk,
+  OnErr,
+};
 ghost use Rattle.std.specs.Cmp.Lexicographic.{pointwise};
 ghost use Rattle.indexmap.specs.IndexMap.{keys, get};
-ghost use Rattle.lc_names.specs.KeyBytes.{IsKey};
-ghost use Rattle.merkle_tree.specs.declared.limits.TheConstants.{MAX_LEAVES};
-ghost use Rattle.prov_entry.specs.declared.entry.Leaf.{Leaf};
-ghost use Rattle.root_laws.specs.Root.{sentinel};
+ghost use Rattle.lc_base.specs.KeyBytes.{IsKey};
+ghost use Rattle.root_laws.specs.{
+  merkle_tree.declared.limits.TheConstants.{MAX_LEAVES},
+  prov_entry.declared.entry.Leaf.{Leaf},
+  Root.{sentinel},
+};
 ghost use Rattle.state_tree.specs.{
   declared.states.LeafState.{LeafState},
   Leaves.{index_of, with_leaf_after, with_state},
@@ -16,9 +36,8 @@ ghost use Rattle.state_tree.specs.{
 
 use crate::states::LeafState;
 use indexmap::IndexMap;
-use lc_base::{Digest, Key, Memory};
-use prov_entry::{Leaf, no_uses};
-use resources::Resources;
+use lc_base::{Digest, Key, Memory, Resources};
+use root_laws::{Leaf, no_uses};
 use std::hash::RandomState;
 use std::marker::Model;
 
@@ -47,7 +66,7 @@ pub(crate) struct ThreadedLeaves {
 
 impl Model for ThreadedLeaves {
     ghost use Rattle.std.specs.Prelude.{List};
-    ghost use Rattle.prov_entry.specs.declared.entry.Leaf.{Leaf};
+    ghost use Rattle.root_laws.specs.prov_entry.declared.entry.Leaf.{Leaf};
     ghost use Rattle.state_tree.specs.Entries.{leaves_of, AreThreaded};
 
     ghost Value = { List Leaf };

@@ -5,13 +5,13 @@ ghost use Rattle.std.specs.{
   Prelude.{◌≡◌, ◌<◌, ◌+◌, ℕ, List, [], ◌∷◌, length, slice_get, Some, None, OnOk, OnErr, IfOk},
   List.{All},
 };
-ghost use Rattle.merkle_tree.specs.{
-  Tree.{audit_path},
-  Climbing.{bytes_of},
-  declared.limits.TheConstants.{MAX_LEAVES},
+ghost use Rattle.root_laws.specs.{
+  merkle_tree.Tree.{audit_path},
+  merkle_tree.Climbing.{bytes_of},
+  merkle_tree.declared.limits.TheConstants.{MAX_LEAVES},
+  prov_entry.declared.entry.Leaf.{Leaf},
+  Root.{sentinel, leaves_hash},
 };
-ghost use Rattle.prov_entry.specs.declared.entry.Leaf.{Leaf};
-ghost use Rattle.root_laws.specs.Root.{sentinel, leaves_hash};
 ghost use Rattle.state_tree.specs.{
   declared.states.LeafState.{LeafState},
   Leaves.{index_of, with_leaf_of, with_states, thread_leaves, leaf_keys, leaf_texts, AreApart},
@@ -25,10 +25,8 @@ use crate::setting::{indexes_with, renew};
 use crate::states::LeafState;
 use crate::threaded::ThreadedLeaves;
 use crate::whole::{whole_audit, whole_hash};
-use lc_base::{Digest, DigestList, Key, Memory};
-use merkle_tree::Levels;
-use prov_entry::Leaf;
-use resources::Resources;
+use lc_base::{Digest, DigestList, Key, Memory, Resources};
+use root_laws::{Leaf, Levels};
 use std::collections::BTreeMap;
 use std::marker::Model;
 
@@ -47,7 +45,7 @@ pub struct Tree {
 // Contracts see the leaves.
 impl Model for Tree {
     ghost use Rattle.std.specs.Prelude.{List};
-    ghost use Rattle.prov_entry.specs.declared.entry.Leaf.{Leaf};
+    ghost use Rattle.root_laws.specs.prov_entry.declared.entry.Leaf.{Leaf};
     ghost use Rattle.state_tree.specs.Order.{IsTree};
 
     ghost Value = { List Leaf };

@@ -1,18 +1,18 @@
 //! The tree hash and an audit path by the leaves alone, for a tree with hashes that are stale.
 
 ghost use Rattle.std.specs.Prelude.{◌≡◌, ◌<◌, ◌≤◌, ◌+◌, ◌-◌, ◌^◌, length, take, drop, IfOk};
-ghost use Rattle.merkle_tree.specs.{
-  Tree.{hash_to, audit_path},
-  Climbing.{bytes_of},
-  declared.limits.TheConstants.{MAX_HEIGHT, MAX_LEAVES},
+ghost use Rattle.root_laws.specs.{
+  merkle_tree.Tree.{hash_to, audit_path},
+  merkle_tree.Climbing.{bytes_of},
+  merkle_tree.declared.limits.TheConstants.{MAX_HEIGHT, MAX_LEAVES},
+  Root.{leaves_hash},
 };
-ghost use Rattle.root_laws.specs.Root.{leaves_hash};
 ghost use Rattle.state_tree.specs.Leaves.{leaf_hashes, leaf_texts};
 
 use crate::hashing::hash_of;
 use crate::threaded::ThreadedLeaves;
 use lc_base::{Digest, DigestList, Memory};
-use merkle_tree::{Levels, MAX_HEIGHT, empty_hash, node_hash};
+use root_laws::{Levels, MAX_HEIGHT, empty_hash, node_hash};
 use std::alloc::Global;
 
 fn levels_of(alloc: Global, leaves: &ThreadedLeaves) -> Result<Levels, Memory>

@@ -6,3 +6,4 @@ pub mod Searched
 pub mod Ways
 pub mod Parts
 pub mod PartClash
+pub use Rattle.proof_checks.proofs as proof_checks

@@ -4,3 +4,4 @@ pub mod Search
 pub mod Searching
 pub mod Ways
 pub mod PartClash
+pub use Rattle.proof_checks.specs as proof_checks

@@ -16,6 +16,5 @@ pub use finding::first_clash;
 pub use laws::clash_of_a_part;
 pub use lists::push_headers;
 pub use proof::{proof_texts, push_leaf_proof};
-pub use proof_views::ProofView;
 pub use search::ClashSearch;
 pub use text::{node_text, root_text, tagged_text, use_text};

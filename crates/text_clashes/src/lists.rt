@@ -8,7 +8,7 @@ ghost use Rattle.proof_checks.specs.ProofTexts.{body_texts, uses_texts};
 use crate::text::{push_tagged, push_use};
 use entry_views::{BodyView, HeaderView};
 use lc_base::{Digest, Memory, TextList};
-use proof_views::{HeadersView, UseView};
+use proof_checks::{HeadersView, UseView};
 use prov_entry::{BODY, HEADER, no_uses, with_use};
 
 fn push_header(texts: &mut TextList, header: &HeaderView) -> Result<(), Memory>

@@ -6,7 +6,10 @@ ghost use Rattle.merkle_tree.specs.{
   declared.limits.TheConstants.{MAX_HEIGHT},
 };
 ghost use Rattle.prov_entry.specs.{Spelling.{leaf_bytes}, ForwardLists.{start_text}};
-ghost use Rattle.proof_checks.specs.{Checks.{climb_of, root_text_of}, ProofTexts.{leaf_proof_texts, proof_texts}};
+ghost use Rattle.proof_checks.specs.{
+  Checks.{climb_of, root_text_of},
+  ProofTexts.{leaf_proof_texts, proof_texts},
+};
 
 use crate::lists::{push_body, push_headers, push_uses};
 use crate::text::{push_root, push_tagged};
@@ -14,7 +17,7 @@ use crate::way::push_way;
 use entry_views::LeafView;
 use lc_base::{Memory, TextList};
 use merkle_tree::{LEAF, leaf_hash};
-use proof_views::{LeafProofView, ProofView};
+use proof_checks::{LeafProofView, ProofView};
 use prov_entry::FORWARD_START;
 use std::alloc::Global;
 

@@ -12,7 +12,7 @@ ghost use Rattle.text_clashes.specs.Ways.{text_above};
 use crate::text::push_node;
 use lc_base::{Digest, DigestList, Memory, TextList};
 use merkle_tree::{MAX_HEIGHT, half_of, node_hash};
-use proof_views::AuditView;
+use proof_checks::AuditView;
 
 /// Appends the text of the node that has `hash` on one side and the first hash of `path` on the
 /// other. Returns the node's hash and the rest of the path.

@@ -10,19 +10,21 @@ use Rattle.prov_entry.specs.declared.entry.Header.{Header}
 use Rattle.prov_entry.specs.declared.entry.Body.{Body}
 use Rattle.proof_codec.specs.declared.proof.Proof.{Proof}
 use Rattle.proof_codec.specs.Spelling.{last_of}
-use Rattle.proof_checks.specs.declared.reject.Reject.{Reject}
-use Rattle.proof_checks.specs.Checks.{verdict}
+use Rattle.proof_verifier.specs.proof_checks.declared.reject.Reject.{Reject}
+use Rattle.proof_verifier.specs.proof_checks.Checks.{verdict}
 use Rattle.root_laws.proofs.Lists.{map_reverse}
-use Rattle.trace_checks.specs.row_ancestors.declared.trace.Trace.{Trace}
-use Rattle.trace_checks.specs.declared.trace_proof.TraceItem.{TraceItem}
-use Rattle.trace_checks.specs.declared.trace_proof.TraceProof.{TraceProof}
-use Rattle.trace_checks.specs.declared.reject.TraceReject.{TraceReject}
-use Rattle.trace_checks.specs.declared.reject.TraceReject.TheVariants.{Start}
-use Rattle.trace_checks.specs.Checks.{and_then, after_items, wanted_by_start, start_query}
-use Rattle.trace_checks.specs.Checks.{after_start, version_of_item, trace_shown, items_verdict}
-use Rattle.trace_checks.specs.Checks.{trace_verdict}
-use Rattle.trace_wanted.specs.declared.error.TraceError.{TraceError}
-use Rattle.trace_wanted.specs.Errors.{fault_told}
+use Rattle.root_laws.specs.declared.trace.Trace.{Trace}
+use Rattle.proof_verifier.specs.proof_checks.declared.trace_proof.TraceItem.{TraceItem}
+use Rattle.proof_verifier.specs.proof_checks.declared.trace_proof.TraceProof.{TraceProof}
+use Rattle.proof_verifier.specs.proof_checks.declared.trace_reject.TraceReject.{TraceReject}
+use Rattle.proof_verifier.specs.proof_checks.declared.trace_reject.TraceReject.TheVariants.{Start}
+use Rattle.proof_verifier.specs.proof_checks.TraceChecks.{and_then, after_items, wanted_by_start}
+use Rattle.proof_verifier.specs.proof_checks.TraceChecks.{start_query}
+use Rattle.proof_verifier.specs.proof_checks.TraceChecks.{after_start, version_of_item, trace_shown}
+use Rattle.proof_verifier.specs.proof_checks.TraceChecks.{items_verdict}
+use Rattle.proof_verifier.specs.proof_checks.TraceChecks.{trace_verdict}
+use Rattle.trace_verifier.specs.declared.error.TraceError.{TraceError}
+use Rattle.trace_verifier.specs.Errors.{fault_told}
 use Rattle.trace_verifier.specs.Starting.{block_of_answer, block_if}
 use Rattle.trace_verifier.specs.Items.{items_passed, shown_in, shown_after}
 use Rattle.trace_verifier.proofs.Starts.{block_shown, block_is, same_wanted}

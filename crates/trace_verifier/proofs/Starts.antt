@@ -9,11 +9,12 @@ use Rattle.prov_entry.specs.declared.entry.Header.{Header}
 use Rattle.prov_entry.specs.declared.entry.Body.{Body}
 use Rattle.proof_codec.specs.declared.proof.Proof.{Proof}
 use Rattle.proof_codec.specs.Spelling.{last_of}
-use Rattle.proof_checks.specs.declared.reject.Reject.TheVariants.{OtherQuery}
-use Rattle.proof_checks.specs.Checks.{query_fault, fault_in, answer_in, answer_from, judgement}
-use Rattle.proof_checks.specs.Checks.{verdict}
-use Rattle.proof_checks.proofs.Tests.{passed, goes_on, accepted, query_is}
-use Rattle.trace_checks.specs.Checks.{start_query, wanted_by_start}
+use Rattle.proof_verifier.specs.proof_checks.declared.reject.Reject.TheVariants.{OtherQuery}
+use Rattle.proof_verifier.specs.proof_checks.Checks.{query_fault, fault_in, answer_in, answer_from}
+use Rattle.proof_verifier.specs.proof_checks.Checks.{judgement}
+use Rattle.proof_verifier.specs.proof_checks.Checks.{verdict}
+use Rattle.proof_verifier.proofs.proof_checks.Tests.{passed, goes_on, accepted, query_is}
+use Rattle.proof_verifier.specs.proof_checks.TraceChecks.{start_query, wanted_by_start}
 use Rattle.trace_verifier.specs.Starting.{block_of_answer, wanted_in}
 
 -- The block of the version, given the last header and the body.

@@ -4,24 +4,24 @@ use Rattle.std.proofs.Common.{IfOk, IfErr, IfSome, IsSomeAnd, sym, ap, subst}
 use Rattle.lc_base.specs.Answers.{Answers}
 use Rattle.lc_base.specs.declared.digest.Digest.{Digest}
 use Rattle.lc_base.specs.declared.row.Row.{Row}
-use Rattle.proof_views.specs.declared.proof_view.ViewError.{ViewError}
-use Rattle.proof_views.specs.declared.proof_view.ViewError.TheVariants.{Malformed}
-use Rattle.proof_views.specs.Viewing.{told_at}
-use Rattle.proof_checks.specs.declared.reject.Reject.{Reject}
-use Rattle.proof_checks.specs.Checks.{verdict}
-use Rattle.proof_checks.specs.root_laws.Root.{root_of}
-use Rattle.proof_checks.specs.root_laws.TypedLedger.{IsTypedHistory}
-use Rattle.trace_checks.specs.row_ancestors.declared.trace.Trace.{Trace}
-use Rattle.trace_checks.specs.declared.trace_proof.TraceProof.{TraceProof}
-use Rattle.trace_checks.specs.declared.reject.TraceReject.{TraceReject}
-use Rattle.trace_checks.specs.Checks.{start_query, trace_verdict}
-use Rattle.trace_checks.specs.TraceTexts.{IsTraceProof, trace_texts}
-use Rattle.trace_checks.specs.Soundness.{TracesOrClashes}
-use Rattle.trace_checks.proofs.Sound.{trace_is_sound}
-use Rattle.trace_wanted.specs.declared.error.TraceError.{TraceError}
-use Rattle.trace_wanted.specs.declared.error.TraceError.TheVariants.{Rejected}
-use Rattle.trace_wanted.specs.Errors.{fault_told}
-use Rattle.trace_views.specs.Reading.{trace_in}
+use Rattle.proof_codec.specs.declared.proof_view.ViewError.{ViewError}
+use Rattle.proof_codec.specs.declared.proof_view.ViewError.TheVariants.{Malformed}
+use Rattle.proof_codec.specs.Viewing.{told_at}
+use Rattle.proof_verifier.specs.proof_checks.declared.reject.Reject.{Reject}
+use Rattle.proof_verifier.specs.proof_checks.Checks.{verdict}
+use Rattle.root_laws.specs.Root.{root_of}
+use Rattle.root_laws.specs.TypedLedger.{IsTypedHistory}
+use Rattle.root_laws.specs.declared.trace.Trace.{Trace}
+use Rattle.proof_verifier.specs.proof_checks.declared.trace_proof.TraceProof.{TraceProof}
+use Rattle.proof_verifier.specs.proof_checks.declared.trace_reject.TraceReject.{TraceReject}
+use Rattle.proof_verifier.specs.proof_checks.TraceChecks.{start_query, trace_verdict}
+use Rattle.proof_verifier.specs.proof_checks.TraceTexts.{IsTraceProof, trace_texts}
+use Rattle.proof_verifier.specs.proof_checks.TraceSoundness.{TracesOrClashes}
+use Rattle.proof_verifier.proofs.proof_checks.TraceSound.{trace_is_sound}
+use Rattle.trace_verifier.specs.declared.error.TraceError.{TraceError}
+use Rattle.trace_verifier.specs.declared.error.TraceError.TheVariants.{Rejected}
+use Rattle.trace_verifier.specs.Errors.{fault_told}
+use Rattle.trace_verifier.specs.Reading.{trace_in}
 use Rattle.trace_verifier.specs.Verdicts.{fault_of_view, malformed_at, verdict_of_read}
 use Rattle.trace_verifier.specs.Verdicts.{trace_verdict_on}
 

@@ -9,11 +9,11 @@ use Rattle.prov_entry.specs.declared.entry.BodyDep.{BodyDep}
 use Rattle.prov_entry.specs.declared.entry.Body.{Body}
 use Rattle.prov_entry.specs.Spelling.{header_text, body_text}
 use Rattle.root_laws.specs.Naming.{is_named}
-use Rattle.trace_checks.specs.row_ancestors.declared.trace.Trace.{Trace}
-use Rattle.trace_checks.specs.declared.trace_proof.TraceItem.{TraceItem}
-use Rattle.trace_checks.specs.declared.reject.TraceReject.{TraceReject}
-use Rattle.trace_checks.specs.declared.reject.TraceReject.TheVariants as rejects
-use Rattle.trace_checks.specs.Checks.{and_then, after_items, version_of_item}
+use Rattle.root_laws.specs.declared.trace.Trace.{Trace}
+use Rattle.proof_verifier.specs.proof_checks.declared.trace_proof.TraceItem.{TraceItem}
+use Rattle.proof_verifier.specs.proof_checks.declared.trace_reject.TraceReject.{TraceReject}
+use Rattle.proof_verifier.specs.proof_checks.declared.trace_reject.TraceReject.TheVariants as rejects
+use Rattle.proof_verifier.specs.proof_checks.TraceChecks.{and_then, after_items, version_of_item}
 use Rattle.trace_verifier.specs.Starting.{wanted_in}
 
 -- The later fault if the test passes, else this one.

@@ -1,6 +1,7 @@
+pub mod Places
+pub mod Errors
+pub mod Reading
 pub mod Starting
 pub mod Items
 pub mod Verdicts
-pub use Rattle.trace_checks.specs as trace_checks
-pub use Rattle.trace_views.specs as trace_views
-pub use Rattle.trace_wanted.specs as trace_wanted
+pub use Rattle.proof_verifier.specs as proof_verifier

@@ -4,9 +4,9 @@ use Rattle.lc_base.specs.declared.answer.Answer.{Answer}
 use Rattle.lc_base.specs.declared.answer.Answer.TheVariants as answers
 use Rattle.prov_entry.specs.declared.entry.BodyDep.{BodyDep}
 use Rattle.prov_entry.specs.declared.entry.Body.{Body}
-use Rattle.proof_checks.specs.declared.reject.Reject.{Reject}
-use Rattle.trace_checks.specs.declared.reject.TraceReject.{TraceReject}
-use Rattle.trace_checks.specs.Checks.{with_deps}
+use Rattle.proof_verifier.specs.proof_checks.declared.reject.Reject.{Reject}
+use Rattle.proof_verifier.specs.proof_checks.declared.trace_reject.TraceReject.{TraceReject}
+use Rattle.proof_verifier.specs.proof_checks.TraceChecks.{with_deps}
 
 -- The block of the version that an answer about what it was derived from is of; `None` for any
 -- other answer.

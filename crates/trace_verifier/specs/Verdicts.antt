@@ -1,15 +1,17 @@
 -- What `verify_trace` returns for bytes, if the reader has a root, a key, and a block.
 use Rattle.std.specs.Prelude.{ℕ, List, Option, Some, None, Result, Ok, Err}
-use Rattle.proof_views.specs.declared.proof_view.ViewError.{ViewError}
-use Rattle.proof_views.specs.declared.proof_view.ViewError.TheVariants as views
-use Rattle.trace_checks.specs.row_ancestors.declared.trace.Trace.{Trace}
-use Rattle.trace_checks.specs.declared.trace_proof.TraceProof.{TraceProof}
-use Rattle.trace_checks.specs.declared.reject.TraceReject.{TraceReject}
-use Rattle.trace_checks.specs.declared.reject.TraceReject.TheVariants.{Malformed}
-use Rattle.trace_checks.specs.Checks.{trace_verdict}
-use Rattle.trace_views.specs.Reading.{trace_in}
-use Rattle.trace_wanted.specs.declared.error.TraceError.{TraceError}
-use Rattle.trace_wanted.specs.declared.error.TraceError.TheVariants.{Rejected}
+use Rattle.proof_codec.specs.declared.proof_view.ViewError.{ViewError}
+use Rattle.proof_codec.specs.declared.proof_view.ViewError.TheVariants as views
+use Rattle.root_laws.specs.declared.trace.Trace.{Trace}
+use Rattle.proof_verifier.specs.proof_checks.declared.trace_proof.TraceProof.{TraceProof}
+use Rattle.proof_verifier.specs.proof_checks.declared.trace_reject.TraceReject.{TraceReject}
+use Rattle.proof_verifier.specs.proof_checks.declared.trace_reject.TraceReject.TheVariants.{
+  Malformed,
+}
+use Rattle.proof_verifier.specs.proof_checks.TraceChecks.{trace_verdict}
+use Rattle.trace_verifier.specs.Reading.{trace_in}
+use Rattle.trace_verifier.specs.declared.error.TraceError.{TraceError}
+use Rattle.trace_verifier.specs.declared.error.TraceError.TheVariants.{Rejected}
 
 -- The fault for bytes that aren't a proof of ancestors.
 abbrev pub fault_of_view : ViewError → TraceReject

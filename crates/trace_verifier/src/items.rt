@@ -6,21 +6,26 @@ ghost use Rattle.std.specs.{
   Option.{option_map},
 };
 ghost use Rattle.lc_base.specs.{Answers.{Answers}, declared.limits.TheConstants.{MAX_ROWS}};
-ghost use Rattle.trace_checks.specs.Checks.{with_deps, after_item, version_of_item};
-ghost use Rattle.trace_wanted.specs.Errors.{fault_told};
+ghost use Rattle.proof_verifier.specs.proof_checks.TraceChecks.{
+  with_deps,
+  after_item,
+  version_of_item,
+};
 ghost use Rattle.trace_verifier.specs.{
+  Errors.{fault_told},
   Starting.{wanted_in},
   Items.{item_fault, items_passed},
 };
 
+use crate::error::TraceError;
+use crate::item_view::ItemView;
+use crate::items_view::ItemsView;
+use crate::wanted::Wanted;
 use entry_views::{BodyDepView, BodyView};
 use lc_base::{Dep, DepList, Memory};
-use proof_verifier::{body_digest, header_digest};
+use proof_verifier::{TraceReject, body_digest, header_digest};
 use prov_entry::BodyDep;
 use std::alloc::Global;
-use trace_checks::TraceReject;
-use trace_views::{ItemView, ItemsView};
-use trace_wanted::{TraceError, Wanted};
 
 /// Inserts all dependencies of the item with this number, in the order of its body.
 fn add_all(

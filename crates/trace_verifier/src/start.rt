@@ -3,16 +3,16 @@
 
 ghost use Rattle.std.specs.Prelude.{◌≡◌};
 ghost use Rattle.proof_codec.specs.Spelling.{IsProof};
-ghost use Rattle.proof_checks.specs.Checks.{is_same_query, verdict};
-ghost use Rattle.proof_verifier.specs.Answering.{answer_seen};
-ghost use Rattle.trace_checks.specs.Checks.{start_query};
+ghost use Rattle.proof_verifier.specs.{
+  proof_checks.Checks.{is_same_query, verdict},
+  Answering.{answer_seen},
+  proof_checks.TraceChecks.{start_query},
+};
 ghost use Rattle.trace_verifier.specs.Starting.{block_of_answer, block_if};
 
 use lc_base::{Digest, Key, Kind, Query};
-use proof_checks::Reject;
-use proof_codec::kind_byte;
-use proof_verifier::{Found, judge};
-use proof_views::ProofView;
+use proof_codec::{ProofView, kind_byte};
+use proof_verifier::{Found, Reject, judge};
 
 /// Whether a query is the one that the start must answer.
 fn is_start_query(key: &Key, at: u32, own: &Query) -> bool

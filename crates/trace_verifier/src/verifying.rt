@@ -9,38 +9,33 @@ ghost use Rattle.lc_base.specs.{
   declared.limits.TheConstants.{MAX_ROWS},
   declared.row.Row.{Row},
 };
-ghost use Rattle.proof_checks.specs.{
-  Checks.{verdict},
-  root_laws.Root.{root_of},
-  root_laws.TypedLedger.{IsTypedHistory},
+ghost use Rattle.proof_verifier.specs.{
+  proof_checks.Checks.{verdict},
+  proof_checks.TraceChecks.{start_query, trace_verdict},
+  proof_checks.TraceTexts.{IsTraceProof, trace_texts},
+  proof_checks.TraceSpelling.{SpellsTrace},
+  proof_checks.TraceSoundness.{TracesOrClashes},
+  proof_checks.declared.trace_proof.TraceProof.{TraceProof as TraceValue},
+  proof_checks.declared.trace_reject.TraceReject.TheVariants.{Start},
 };
-ghost use Rattle.trace_checks.specs.{
-  Checks.{start_query, trace_verdict},
-  TraceTexts.{IsTraceProof, trace_texts},
-  Spelling.{SpellsTrace},
-  Soundness.{TracesOrClashes},
-  declared.trace_proof.TraceProof.{TraceProof as TraceValue},
-  declared.reject.TraceReject.TheVariants.{Start},
-};
-ghost use Rattle.trace_views.specs.Reading.{trace_in};
-ghost use Rattle.trace_wanted.specs.{
+ghost use Rattle.root_laws.specs.{Root.{root_of}, TypedLedger.{IsTypedHistory}};
+ghost use Rattle.trace_verifier.specs.{
+  Reading.{trace_in},
   Errors.{fault_told},
   declared.error.TraceError.TheVariants.{Rejected},
-};
-ghost use Rattle.trace_verifier.specs.{
   Items.{shown_in, shown_after},
   Verdicts.{fault_of_view, malformed_at, trace_verdict_on},
 };
 
+use crate::error::TraceError;
 use crate::items::{check_items, wanted_by_start};
 use crate::start::judge_start;
+use crate::trace_view::{TraceView, view_trace};
 use lc_base::{DepList, Digest, Key};
-use proof_views::ViewError;
-use row_ancestors::Trace;
+use proof_codec::ViewError;
+use proof_verifier::TraceReject;
+use root_laws::Trace;
 use std::alloc::Global;
-use trace_checks::TraceReject;
-use trace_views::{TraceView, view_trace};
-use trace_wanted::TraceError;
 
 /// The fault for bytes that aren't a proof of ancestors.
 fn fault_of_view(error: ViewError) -> TraceReject

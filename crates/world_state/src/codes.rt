@@ -10,8 +10,7 @@ ghost use Rattle.std.specs.{
 ghost use Rattle.world_state.specs.KnownCodes.{KnownCodes, is_used};
 
 use indexmap::IndexMap;
-use lc_base::{Memory, Name};
-use resources::Resources;
+use lc_base::{Memory, Name, Resources};
 use std::hash::RandomState;
 use std::marker::Model;
 

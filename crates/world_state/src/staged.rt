@@ -12,8 +12,7 @@ ghost use Rattle.world_state.specs.Rows.{entry_of, is_staged};
 
 use crate::held::{Held, entries_of};
 use indexmap::IndexSet;
-use lc_base::{Key, Memory, Row};
-use resources::Resources;
+use lc_base::{Key, Memory, Resources, Row};
 use std::hash::RandomState;
 use std::marker::Model;
 

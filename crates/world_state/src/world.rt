@@ -19,8 +19,7 @@ use crate::held::Held;
 use crate::limits::RAW_NAME;
 use crate::staged::Staged;
 use indexmap::IndexMap;
-use lc_base::{Key, Memory, Name, RowList, Value};
-use resources::Resources;
+use lc_base::{Key, Memory, Name, Resources, RowList, Value};
 use std::hash::RandomState;
 use std::marker::Model;
 

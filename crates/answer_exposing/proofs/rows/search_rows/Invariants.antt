@@ -1,6 +1,6 @@
 use Rattle.std.proofs.Common.{◌≡◌, true, drop}
 use Rattle.std.specs.List.{flat_map}
-use Rattle.scratch_model.specs.Scratch.{is_known}
+use Rattle.lc_io.specs.Scratch.{is_known}
 use Rattle.merkle_dag.specs.Lineage.{StaysSame}
 use Rattle.proof_checks.specs.LedgerTexts.{texts_of_row}
 use Rattle.answer_exposing.proofs.Onward.{SearchesUpTo}

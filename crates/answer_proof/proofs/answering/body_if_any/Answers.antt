@@ -1,7 +1,7 @@
 use Rattle.std.proofs.Common.{◌∙◌, ℕ, Option, Some, ap, subst, sym}
 use Rattle.std.specs.Option.{option_map}
 use Rattle.root_laws.specs.Naming.{body_of}
-use Rattle.rows_index.specs.Places.{IsRowAt}
+use Rattle.plain_rows.specs.Places.{IsRowAt}
 use Rattle.answer_proof.proofs.Bodies.{row_body}
 use Rattle.answer_proof.proofs.answering.body_if_any.Goals as goal
 

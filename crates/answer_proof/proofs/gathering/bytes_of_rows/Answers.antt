@@ -5,7 +5,7 @@ use Rattle.lc_base.specs.History.{latest}
 use Rattle.lc_base.specs.declared.row.Row.{Row}
 use Rattle.proof_codec.specs.declared.proof.Proof.{Proof}
 use Rattle.proof_codec.specs.Spelling.{proof_fields}
-use Rattle.proof_views.specs.Viewing.{Spells}
+use Rattle.proof_codec.specs.Viewing.{Spells}
 use Rattle.proof_checks.specs.Making.{made_of}
 use Rattle.root_laws.specs.Naming.{body_of}
 use Rattle.answer_proof.proofs.Gathered.{some_body}

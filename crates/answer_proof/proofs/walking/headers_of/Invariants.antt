@@ -1,6 +1,6 @@
 use Rattle.std.proofs.Common.{◌≡◌, ℕ, List, take}
 use Rattle.std.specs.List.{filter_map}
-use Rattle.lineage_store.specs.OnPath.{AreEntriesIn}
+use Rattle.merkle_dag.specs.lineage_index.OnPath.{AreEntriesIn}
 use Rattle.proof_checks.specs.Making.{header_in}
 use Rattle.answer_proof.proofs.walking.headers_of.Given as goal
 

@@ -1,7 +1,7 @@
 use Rattle.std.proofs.Common.{List, sym, subst}
 use Rattle.skip_links.specs.Paths.{path}
 use Rattle.entry_store.specs.declared.entry.EntryId.{EntryId}
-use Rattle.lineage_store.specs.OnPath.{AreEntriesIn}
+use Rattle.merkle_dag.specs.lineage_index.OnPath.{AreEntriesIn}
 use Rattle.answer_proof.proofs.walking.path_headers.Goals as goal
 
 pub headers_of-requires : goal.headers_of-requires

@@ -1,6 +1,6 @@
 use Rattle.std.proofs.Common.{◌≡◌, ℕ, List, true, Some, subst, ◌∙◌, sym}
 use Rattle.std.specs.Rc.{rc_slice_items}
-use Rattle.scratch_model.specs.Scratch.{ScratchState, is_known, HoldsAt}
+use Rattle.lc_io.specs.Scratch.{ScratchState, is_known, HoldsAt}
 use Rattle.body_store.specs.Bodies.{KeptBody, body_at}
 use Rattle.body_store.specs.Cached.{pairs_of}
 use Rattle.body_store.proofs.Agreeing.{agrees_on, agrees_fewer, agrees_more, body_read}

@@ -1,7 +1,7 @@
 use Rattle.std.proofs.Common.{◌≡◌, ℕ, List, [], ◌∷◌, ◌++◌, subst, ap, ◌∙◌, sym}
 use Rattle.std.specs.Rc.{rc_slice_items}
 use Rattle.std.proofs.lemmas.List.{map-append}
-use Rattle.scratch_model.specs.Scratch.{ScratchState, IsKeptAt}
+use Rattle.lc_io.specs.Scratch.{ScratchState, IsKeptAt}
 use Rattle.body_store.specs.Bodies.{KeptBody, bodies_of}
 use Rattle.body_store.specs.Agreement.{Agrees, IsBodyOf}
 use Rattle.body_store.specs.Cached.{pairs_of}

@@ -1,4 +1,4 @@
-use Rattle.lc_base.specs.lc_names.KeyBytes.{IsKey}
+use Rattle.lc_base.specs.KeyBytes.{IsKey}
 use Rattle.byte_fields.specs.Spelling.{string_fields}
 use Rattle.byte_fields.proofs.WrittenItems.{written_more}
 use Rattle.byte_fields.proofs.writing.put_keys.Goals as goal

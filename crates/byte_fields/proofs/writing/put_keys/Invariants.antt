@@ -1,5 +1,5 @@
 use Rattle.std.proofs.Common.{take}
-use Rattle.lc_base.specs.lc_names.KeyBytes.{IsKey}
+use Rattle.lc_base.specs.KeyBytes.{IsKey}
 use Rattle.byte_fields.specs.Spelling.{string_fields}
 use Rattle.byte_fields.proofs.WrittenItems.{Written}
 use Rattle.byte_fields.proofs.writing.put_keys.Given as goal

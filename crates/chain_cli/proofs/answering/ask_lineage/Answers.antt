@@ -1,8 +1,8 @@
 use Rattle.std.proofs.Common.{Some, ap, ◌∙◌}
-use Rattle.scratch_model.specs.Scratch.{is_known}
+use Rattle.lc_io.specs.Scratch.{is_known}
 use Rattle.block_log.specs.Standing.{standing}
 use Rattle.cli_append.specs.recovery.Node.{next_in_chain}
-use Rattle.cli_traces.specs.cli_proofs.merkle_dag.Lineage.{LineageState, ledger_in}
+use Rattle.merkle_dag.specs.Lineage.{LineageState, ledger_in}
 use Rattle.cli_output.proofs.Ends.{no_start_ends}
 use Rattle.cli_output.proofs.Found.{asked_found, no_start_found, asks_it, needs_disk, needs_scratch}
 use Rattle.cli_output.proofs.Meets.{chain_of_node}

@@ -3,7 +3,7 @@ use Rattle.cli_words.specs.declared.words.Command.TheVariants.{Ask}
 use Rattle.cli_output.specs.declared.stop.OutcomeStop.{OutcomeStop}
 use Rattle.cli_output.proofs.Ends.{asked_ends, no_start_ends}
 use Rattle.cli_output.proofs.Found.{asked_found, no_start_found}
-use Rattle.cli_append.specs.chain_exec.Compiled.{compiled_in}
+use Rattle.chain_exec.specs.Compiled.{compiled_in}
 use Rattle.cli_output.specs.Output.{answer_outcome, at_or_last}
 use Rattle.chain_cli.proofs.Runs.{asked_over}
 use Rattle.chain_cli.proofs.answering.ask_rows.Goals as goal

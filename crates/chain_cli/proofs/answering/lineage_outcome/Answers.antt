@@ -2,14 +2,14 @@ use Rattle.std.proofs.Common.{Some, Ok, refl}
 use Rattle.cli_words.specs.declared.words.Command.TheVariants.{Root, Prove, Expose}
 use Rattle.cli_words.specs.declared.words.Command.TheVariants.{Trace, ProveTrace}
 use Rattle.cli_words.specs.declared.words.Command.TheVariants.{Range, ProveRange}
-use Rattle.cli_append.specs.chain_exec.Compiled.{compiled_in}
+use Rattle.chain_exec.specs.Compiled.{compiled_in}
 use Rattle.cli_output.specs.Output.{root_outcome, prove_outcome, trace_outcome}
 use Rattle.cli_output.specs.Output.{prove_trace_outcome, range_outcome, prove_range_outcome}
 use Rattle.cli_output.specs.Output.{at_or_last}
 use Rattle.cli_output.specs.Telling.{status_of_found}
 use Rattle.cli_output.specs.declared.stop.OutcomeStop.{OutcomeStop}
 use Rattle.cli_output.proofs.Ends.{asked_ends, may_end}
-use Rattle.cli_traces.proofs.cli_proofs.Exposes.{outcome_may, asked_has_log, found_has_log}
+use Rattle.cli_proofs.proofs.Exposes.{outcome_may, asked_has_log, found_has_log}
 use Rattle.chain_cli.proofs.Ends.{of_given, lineage_ends, in_order, proved_in_order}
 use Rattle.chain_cli.proofs.Runs.{asked_over, expose_over, of_over}
 use Rattle.chain_cli.proofs.answering.lineage_outcome.Goals as goal

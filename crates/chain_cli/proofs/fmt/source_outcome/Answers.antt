@@ -1,5 +1,5 @@
 use Rattle.std.proofs.Common.{sym, ap, ◌∙◌, subst}
-use Rattle.cli_append.specs.cli_lines.Outcome.{bad_input}
+use Rattle.cli_lines.specs.Outcome.{bad_input}
 use Rattle.contract_parse.specs.Syntax.{IsOutcome}
 use Rattle.cli_output.specs.Output.{edition_number, source_outcome}
 use Rattle.chain_cli.proofs.Fmts.{source_wanted}

@@ -1,5 +1,5 @@
 use Rattle.std.proofs.Common.{refl, ◌∙◌}
-use Rattle.crash_promises.proofs.Tellings.{none_told}
+use Rattle.cli_append.proofs.cli_promises.Tellings.{none_told}
 use Rattle.cli_output.proofs.Plain.{plain_ok, plain_err}
 use Rattle.chain_cli.proofs.generating.tell_frame.Goals as goal
 

@@ -1,9 +1,9 @@
 use Rattle.std.proofs.Common.{Some, refl, ap}
 use Rattle.disk_model.proofs.Moments.{stays_on}
-use Rattle.scratch_model.specs.Scratch.{is_known}
+use Rattle.lc_io.specs.Scratch.{is_known}
 use Rattle.block_log.specs.Standing.{standing}
 use Rattle.cli_append.specs.recovery.Node.{next_in_chain}
-use Rattle.cli_traces.specs.cli_proofs.merkle_dag.Lineage.{LineageState, ledger_in}
+use Rattle.merkle_dag.specs.Lineage.{LineageState, ledger_in}
 use Rattle.cli_words.specs.declared.words.Command.TheVariants.{MakeLight}
 use Rattle.cli_output.proofs.Ends.{no_start_ends}
 use Rattle.cli_output.proofs.Found.{no_start_found}

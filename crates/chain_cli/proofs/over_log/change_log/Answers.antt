@@ -1,5 +1,5 @@
 use Rattle.std.proofs.Common.{Err, Some, ap, refl, sym, ◌∙◌}
-use Rattle.scratch_model.specs.Scratch.{is_known}
+use Rattle.lc_io.specs.Scratch.{is_known}
 use Rattle.cli_words.specs.declared.words.Command.TheVariants.{Append, Follow, Upgrade}
 use Rattle.block_log.specs.Log.{next_in_log}
 use Rattle.cli_append.specs.recovery.Node.{next_in_chain}
@@ -10,7 +10,7 @@ use Rattle.chain_cli.proofs.LogRuns.{append_run, follow_run, refused_run, upgrad
 use Rattle.chain_cli.proofs.Ends.{answer_ends, answer_has_log, marks_log, of_given, upgrade_ends}
 use Rattle.chain_cli.proofs.Ends.{upgrade_silent, uses_both}
 use Rattle.cli_append.proofs.Causes.{carried, kept}
-use Rattle.cli_append.specs.declared.ending.RunStop.TheVariants as stops
+use Rattle.cli_append.specs.cli_promises.declared.ending.RunStop.TheVariants as stops
 use Rattle.chain_cli.proofs.Blames.{marked_blames, marked_unblamed, none_blamed, taken_blames, unblamed}
 use Rattle.chain_cli.proofs.Moments.{stays_twice, taken_any, taken_log, upgrade_any, upgrade_log}
 use Rattle.chain_cli.proofs.over_log.change_log.Goals as goal

@@ -1,9 +1,9 @@
 use Rattle.std.proofs.Common.{refl}
 use Rattle.block_codec.specs.Reading.{block_in}
 use Rattle.block_log.specs.Log.{next_in_log}
-use Rattle.scratch_model.specs.Scratch.{is_known}
+use Rattle.lc_io.specs.Scratch.{is_known}
 use Rattle.block_codec.proofs.WholeBlocks.{decided}
-use Rattle.cli_append.specs.chain_exec.Compiled.{compiled_in}
+use Rattle.chain_exec.specs.Compiled.{compiled_in}
 use Rattle.cli_append.specs.recovery.Node.{next_in_chain}
 use Rattle.cli_output.specs.Uses.{changes_log}
 use Rattle.chain_cli.proofs.Runs.{with_status}

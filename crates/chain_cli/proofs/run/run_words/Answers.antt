@@ -1,5 +1,5 @@
 use Rattle.std.proofs.Common.{Some, None, sym, ap, ◌∙◌}
-use Rattle.scratch_model.specs.Scratch.{is_known}
+use Rattle.lc_io.specs.Scratch.{is_known}
 use Rattle.cli_append.specs.recovery.Node.{next_in_chain}
 use Rattle.cli_output.specs.Telling.{status_of_result, status_of_usage}
 use Rattle.chain_cli.proofs.Runs.{usage_run, with_status}

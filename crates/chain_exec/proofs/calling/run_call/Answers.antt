@@ -1,5 +1,5 @@
 use Rattle.std.proofs.Common.{ap}
-use Rattle.contract_semantics.specs.Answers.{place_in}
+use Rattle.contract_eval.specs.contract_semantics.Answers.{place_in}
 use Rattle.chain_exec.specs.BlockRows.{AreTxRows}
 use Rattle.chain_exec.specs.declared.staging.TxRun.{TxRun}
 use Rattle.chain_exec.proofs.Told.{handed_on, unless_memory}

@@ -1,6 +1,6 @@
 use Rattle.std.proofs.Common.{rules, sym, refl, subst}
 use Rattle.lc_base.specs.declared.row.Row.{Row}
-use Rattle.contract_semantics.specs.Answers.{place_in}
+use Rattle.contract_eval.specs.contract_semantics.Answers.{place_in}
 use Rattle.chain_exec.specs.BlockRows.{AreTxRows}
 use Rattle.chain_exec.specs.declared.staging.TxRun.{TxRun}
 use Rattle.chain_exec.proofs.Told.{handed_on}

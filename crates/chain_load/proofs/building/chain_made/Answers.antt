@@ -1,9 +1,9 @@
 use Rattle.std.proofs.Common.{◌≡◌, ◌∙◌, ◌+◌, ℕ, Bool, refl, subst, sym, arith}
-use Rattle.scratch_model.specs.Scratch.{is_known}
+use Rattle.lc_io.specs.Scratch.{is_known}
 use Rattle.rooted_chain.specs.chain_replay.Chain.{StandsFor}
-use Rattle.scratch_model.proofs.Retaining.{retains_refl, retains_trans}
+use Rattle.lc_io.proofs.Retaining.{retains_refl, retains_trans}
 use Rattle.rooted_chain.specs.Roots.{kept_in}
-use Rattle.chain_gen.specs.Generator.{first_blocks}
+use Rattle.chain_pack.specs.Generator.{first_blocks}
 use Rattle.chain_load.specs.Building.{HasAdded}
 use Rattle.chain_load.proofs.Placed.{none_added, all_added}
 use Rattle.rooted_chain.proofs.merkle_dag.Causes.{unblamed}

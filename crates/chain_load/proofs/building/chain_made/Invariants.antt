@@ -1,5 +1,5 @@
 use Rattle.std.proofs.Common.{◌≡◌}
-use Rattle.scratch_model.specs.Scratch.{is_known, Retains}
+use Rattle.lc_io.specs.Scratch.{is_known, Retains}
 use Rattle.rooted_chain.specs.merkle_dag.Lineage.{AgreesWith}
 use Rattle.rooted_chain.specs.Roots.{kept_in, lineage_in}
 use Rattle.chain_load.specs.Building.{HasAdded}

@@ -1,10 +1,10 @@
 use Rattle.std.proofs.Common.{◌∙◌, ap, subst, arith}
-use Rattle.scratch_model.specs.Scratch.{is_known}
+use Rattle.lc_io.specs.Scratch.{is_known}
 use Rattle.block_codec.specs.Placement.{bytes_digest}
 use Rattle.block_codec.specs.Spelling.{Spells}
 use Rattle.block_codec.specs.declared.block.Block.{Block}
 use Rattle.rooted_chain.specs.Roots.{kept_in}
-use Rattle.chain_gen.specs.Generator.{Progress, GoesOn, block_drawn}
+use Rattle.chain_pack.specs.Generator.{Progress, GoesOn, block_drawn}
 use Rattle.chain_load.specs.Loads.{blocks_of}
 use Rattle.chain_load.proofs.Placed.{gives_next, added_more}
 use Rattle.chain_load.proofs.building.with_next.Goals as goal

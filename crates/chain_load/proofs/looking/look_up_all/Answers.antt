@@ -1,7 +1,7 @@
 use Rattle.std.proofs.Common.{◌≤◌, ◌∙◌, List, refl, ap, subst, arith}
 use Rattle.lc_base.specs.declared.digest.Digest.{Digest}
 use Rattle.lc_base.specs.declared.row.Row.{Row}
-use Rattle.scratch_model.specs.Scratch.{is_known}
+use Rattle.lc_io.specs.Scratch.{is_known}
 use Rattle.rooted_chain.specs.merkle_dag.Ledger.{most_looked_at}
 use Rattle.rooted_chain.specs.merkle_dag.Staying.{stays_refl, stays_trans}
 use Rattle.chain_load.specs.Lookups.{lookup_drawn, looked_at, bytes_found}

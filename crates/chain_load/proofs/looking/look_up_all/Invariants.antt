@@ -1,5 +1,5 @@
 use Rattle.std.proofs.Common.{◌≡◌}
-use Rattle.scratch_model.specs.Scratch.{is_known}
+use Rattle.lc_io.specs.Scratch.{is_known}
 use Rattle.rooted_chain.specs.merkle_dag.Ledger.{most_looked_at}
 use Rattle.rooted_chain.specs.merkle_dag.Lineage.{StaysSame}
 use Rattle.chain_load.proofs.Counting.{IsLooking}

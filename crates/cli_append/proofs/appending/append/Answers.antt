@@ -1,10 +1,10 @@
 use Rattle.std.proofs.Common.{◌∙◌, refl, rules}
 use Rattle.disk_model.proofs.Calls.{stay_keeps}
 use Rattle.block_log.specs.Log.{next_in_log}
-use Rattle.recovery.specs.Node.{next_in_chain, logged_in}
-use Rattle.recovery.proofs.merkle_dag.Causes.{blameless, unblamed}
-use Rattle.cli_append.specs.Appending.{Grows}
-use Rattle.cli_append.specs.declared.ending.RunStop.TheVariants as stops
+use Rattle.cli_promises.specs.recovery.Node.{next_in_chain, logged_in}
+use Rattle.merkle_dag.proofs.Causes.{blameless, unblamed}
+use Rattle.cli_promises.specs.Appending.{Grows}
+use Rattle.cli_promises.specs.declared.ending.RunStop.TheVariants as stops
 use Rattle.cli_append.proofs.Loop.{goes_still}
 use Rattle.cli_append.proofs.Turns.{all_appended, unread, stopped_within, refused}
 use Rattle.cli_append.proofs.Causes.{carried, kept, none_blamed}

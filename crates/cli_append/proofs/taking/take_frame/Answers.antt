@@ -1,7 +1,7 @@
 use Rattle.std.proofs.Common.{◌∙◌, refl}
 use Rattle.block_codec.specs.Reading.{block_in}
-use Rattle.recovery.specs.chain_replay.Judging.{judgement_of}
-use Rattle.recovery.specs.Node.{next_in_chain, stored_placement, logged_in}
+use Rattle.chain_replay.specs.Judging.{judgement_of}
+use Rattle.cli_promises.specs.recovery.Node.{next_in_chain, stored_placement, logged_in}
 use Rattle.cli_append.proofs.Causes.{carried, kept, none_blamed}
 use Rattle.cli_append.proofs.Frames.{takes_whole, takes_part, takes_none, takes_refusal}
 use Rattle.cli_append.proofs.Frames.{images_told}

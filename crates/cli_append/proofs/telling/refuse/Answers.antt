@@ -1,5 +1,5 @@
 use Rattle.std.proofs.Common.{◌∙◌, refl}
-use Rattle.crash_promises.proofs.Tellings.{none_told, plain_told}
+use Rattle.cli_promises.proofs.Tellings.{none_told, plain_told}
 use Rattle.cli_append.proofs.telling.refuse.Goals as goal
 
 pub returns-in-Ok-tell_line-clause-lines : goal.returns-in-Ok-tell_line-clause-lines

@@ -1,4 +1,4 @@
-use Rattle.crash_promises.proofs.Tellings.{told_line}
+use Rattle.cli_promises.proofs.Tellings.{told_line}
 use Rattle.cli_append.proofs.telling.tell_line.Goals as goal
 
 pub returns-clause-lines : goal.returns-clause-lines

@@ -2,9 +2,9 @@ use Rattle.std.proofs.Common.{refl, sym, ap, ◌∙◌}
 use Rattle.disk_model.proofs.Calls.{stay_keeps}
 use Rattle.block_log.specs.Standing.{with_mark}
 use Rattle.block_log.specs.Log.{IsOldOrMarked, log_placement, next_in_log}
-use Rattle.recovery.specs.Node.{next_in_chain, logged_in}
-use Rattle.cli_lines.specs.Lines.{upgraded_line}
-use Rattle.cli_append.specs.declared.ending.RunStop.TheVariants as stops
+use Rattle.cli_promises.specs.recovery.Node.{next_in_chain, logged_in}
+use Rattle.cli_promises.specs.cli_lines.Lines.{upgraded_line}
+use Rattle.cli_promises.specs.declared.ending.RunStop.TheVariants as stops
 use Rattle.cli_append.proofs.Frames.{stands_at}
 use Rattle.cli_append.proofs.Upgraded.{already_marked, as_many, disk_blamed, disk_unblamed}
 use Rattle.cli_append.proofs.Upgraded.{images_known, log_stays, log_still}

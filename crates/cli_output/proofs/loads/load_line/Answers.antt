@@ -1,7 +1,7 @@
 use Rattle.std.proofs.Common.{◌++◌, ◌∙◌}
 use Rattle.std.specs.Prelude.{codes, decimal}
 use Rattle.hex.specs.Hex.{encode_lower}
-use Rattle.cli_append.proofs.cli_lines.Texts.{line_of}
+use Rattle.cli_promises.proofs.cli_lines.Texts.{line_of}
 use Rattle.cli_output.proofs.LoadTexts.{joined, load_text}
 use Rattle.cli_output.proofs.loads.load_line.Goals as goal
 

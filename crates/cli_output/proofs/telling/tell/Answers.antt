@@ -1,4 +1,4 @@
-use Rattle.cli_append.specs.recovery.Node.{next_in_chain}
+use Rattle.cli_promises.specs.recovery.Node.{next_in_chain}
 use Rattle.cli_output.proofs.Ends.{found_ends}
 use Rattle.cli_output.proofs.telling.tell.Goals as goal
 

@@ -1,6 +1,6 @@
 use Rattle.std.proofs.Common.{true, false, refl, arith, ◌∙◌}
 use Rattle.disk_model.proofs.Moments.{stays_here, stays_on}
-use Rattle.crash_promises.proofs.Tellings.{none_to_tell}
+use Rattle.cli_promises.proofs.Tellings.{none_to_tell}
 use Rattle.cli_output.proofs.Plain.{plain_ok, plain_err, one_more, cut_off, all_of}
 use Rattle.cli_output.proofs.telling.tell_all.Goals as goal
 

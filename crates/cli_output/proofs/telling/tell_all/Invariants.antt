@@ -1,7 +1,7 @@
 use Rattle.std.proofs.Common.{◌≡◌, map, take, true}
 use Rattle.lc_io.specs.Disk.{Stays}
 use Rattle.block_log.specs.Standing.{NextBlock}
-use Rattle.crash_promises.specs.Promises.{plain, Telling}
+use Rattle.cli_promises.specs.Promises.{plain, Telling}
 use Rattle.cli_output.proofs.telling.tell_all.Given as goal
 
 abbrev pub invariant-loop-piece : goal.invariant-loop-piece

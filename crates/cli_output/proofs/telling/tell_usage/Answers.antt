@@ -1,5 +1,5 @@
 use Rattle.std.proofs.Common.{refl}
-use Rattle.crash_promises.proofs.Tellings.{none_told}
+use Rattle.cli_promises.proofs.Tellings.{none_told}
 use Rattle.cli_output.proofs.telling.tell_usage.Goals as goal
 
 pub returns-clause-lines : goal.returns-clause-lines

@@ -1,6 +1,6 @@
 use Rattle.std.proofs.Common.{List, ℕ, subst}
 use Rattle.std.specs.Prelude.{IfOk}
-use Rattle.answer_proof.specs.merkle_dag.Lineage.{ledger_in}
+use Rattle.merkle_dag.specs.Lineage.{ledger_in}
 use Rattle.cli_proofs.specs.Exposing.{IsHeld}
 use Rattle.cli_proofs.proofs.Exposes.{past_told, long_told, whole_result}
 use Rattle.cli_proofs.proofs.exposing.expose.Goals as goal

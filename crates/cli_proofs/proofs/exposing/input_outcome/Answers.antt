@@ -1,5 +1,5 @@
 use Rattle.std.proofs.Common.{◌∙◌, Ok, List, ℕ, ap, sym}
-use Rattle.answer_proof.specs.merkle_dag.Lineage.{ledger_in}
+use Rattle.merkle_dag.specs.Lineage.{ledger_in}
 use Rattle.cli_proofs.proofs.Exposes.{accepted_held, refused_held, bad_hex_held, decoded_is}
 use Rattle.cli_proofs.proofs.exposing.input_outcome.Goals as goal
 

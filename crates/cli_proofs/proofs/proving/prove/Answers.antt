@@ -1,4 +1,4 @@
-use Rattle.answer_proof.specs.merkle_dag.Lineage.{ledger_in}
+use Rattle.merkle_dag.specs.Lineage.{ledger_in}
 use Rattle.cli_proofs.proofs.Proves.{proved_told}
 use Rattle.cli_proofs.proofs.proving.prove.Goals as goal
 

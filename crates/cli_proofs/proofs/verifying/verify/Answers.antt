@@ -1,5 +1,5 @@
 use Rattle.std.proofs.Common.{List, ℕ, subst}
-use Rattle.proof_commands.specs.Verifying.{IsVerification}
+use Rattle.cli_output.specs.proof_commands.Verifying.{IsVerification}
 use Rattle.cli_proofs.proofs.Verifies.{long_verified, whole_verified, verify_ends}
 use Rattle.cli_proofs.proofs.verifying.verify.Goals as goal
 

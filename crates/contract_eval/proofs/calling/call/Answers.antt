@@ -1,14 +1,14 @@
 use Rattle.std.proofs.Common.{◌≡◌, Some, ◌∙◌, ap, sym, List}
-use Rattle.contract_semantics.specs.declared.site.Outcome.{Outcome}
+use Rattle.eval_expressions.specs.contract_semantics.declared.site.Outcome.{Outcome}
 use Rattle.world_state.specs.World.{is_written, StandsForRows}
 use Rattle.std.specs.Option.{option_map, option_copied}
 use Rattle.lc_base.specs.declared.value.Value.{Value}
-use Rattle.contract_semantics.specs.Answers.{scene_in}
+use Rattle.eval_expressions.specs.contract_semantics.Answers.{scene_in}
 use Rattle.contract_tree.specs.Tree.{contract_of, function_of}
-use Rattle.contract_semantics.specs.Scenes.{scene_of}
-use Rattle.contract_semantics.specs.Calls.{call_result, function_called}
+use Rattle.eval_expressions.specs.contract_semantics.Scenes.{scene_of}
+use Rattle.eval_expressions.specs.contract_semantics.Calls.{call_result, function_called}
 use Rattle.contract_eval.proofs.Called.{called_is, ok_so}
-use Rattle.contract_eval.proofs.eval_expressions.ToldRows.{told_at, told_all}
+use Rattle.eval_expressions.proofs.ToldRows.{told_at, told_all}
 use Rattle.contract_eval.proofs.calling.call.Goals as goal
 
 pub returns-clause-outcome : goal.returns-clause-outcome

@@ -1,5 +1,5 @@
 use Rattle.std.proofs.Common.{◌≡◌, ◌++◌, drop}
-use Rattle.contract_semantics.specs.Calls.{first_variables}
+use Rattle.eval_expressions.specs.contract_semantics.Calls.{first_variables}
 use Rattle.contract_eval.proofs.calling.first_variables.Given as goal
 
 abbrev pub invariant-loop-i : goal.invariant-loop-i

@@ -2,16 +2,19 @@ use Rattle.std.proofs.Common.{◌≡◌, Bool, Option, Result, subst, rules, map
 use Rattle.contract_tree.specs.declared.tree.Form.TheVariants.{If}
 use Rattle.contract_tree.specs.Tree.{tree_of, parts_of, statement_of, statement_list}
 use Rattle.contract_tree.proofs.Statements.{let_is, assign_is, put_is, fail_is, return_is}
-use Rattle.contract_semantics.specs.Answers.{scene_in}
-use Rattle.contract_semantics.specs.Steps.{machine}
-use Rattle.contract_semantics.specs.Statements.{Goes, Returns, let_run, assign_run, put_run, statement_run, statements_run, block_run, branch_run, loop_turn}
+use Rattle.eval_expressions.specs.contract_semantics.Answers.{scene_in}
+use Rattle.eval_expressions.specs.contract_semantics.Steps.{machine}
+use Rattle.eval_expressions.specs.contract_semantics.Statements.{Goes, Returns, let_run, assign_run}
+use Rattle.eval_expressions.specs.contract_semantics.Statements.{put_run, statement_run}
+use Rattle.eval_expressions.specs.contract_semantics.Statements.{statements_run, block_run}
+use Rattle.eval_expressions.specs.contract_semantics.Statements.{branch_run, loop_turn}
 use Rattle.contract_eval.proofs.Branches.{as_tree, if_flows, while_flows, told_as, runs_as, first_runs, second_runs, block_goes_on}
-use Rattle.contract_semantics.specs.declared.stop.EvalStop.{EvalStop}
-use Rattle.eval_simple.specs.declared.flow.Flow.{Flow}
-use Rattle.eval_simple.specs.eval_builtins.Runs.{KeepsRun}
+use Rattle.eval_expressions.specs.contract_semantics.declared.stop.EvalStop.{EvalStop}
+use Rattle.contract_eval.specs.declared.flow.Flow.{Flow}
+use Rattle.eval_expressions.specs.Runs.{KeepsRun}
 use Rattle.contract_eval.proofs.Keeping.{kept_ok, kept_err, kept_after, kept_on}
 use Rattle.contract_eval.proofs.Loops.{turn_moved, one_more, stops, ends, unblamed_at_ok}
-use Rattle.eval_simple.proofs.eval_expressions.ToldRows.{told_at, told_all}
+use Rattle.eval_expressions.proofs.ToldRows.{told_at, told_all}
 use Rattle.contract_eval.proofs.statement.+statement.Goals as goal
 
 pub statement-returns-in_ok-chosen-in-If-clause-step : goal.statement-returns-in_ok-chosen-in-If-clause-step

@@ -2,10 +2,12 @@ use Rattle.std.proofs.Common.{◌≡◌, ◌≤◌, ◌-◌, drop, List, Some, m
 use Rattle.std.specs.Prelude.{IfSome}
 use Rattle.lc_base.specs.declared.row.Row.{Row}
 use Rattle.contract_tree.specs.Tree.{tree_of, statement_of, statement_list}
-use Rattle.contract_semantics.specs.Answers.{scene_in, place_in, IsFaithful}
-use Rattle.contract_semantics.specs.Steps.{machine, and_then}
-use Rattle.contract_semantics.specs.Statements.{statements_run, block_run, block_ended, turns, loop_turn, loop_run}
-use Rattle.eval_simple.specs.eval_builtins.Runs.{IsLent}
+use Rattle.eval_expressions.specs.contract_semantics.Answers.{scene_in, place_in, IsFaithful}
+use Rattle.eval_expressions.specs.contract_semantics.Steps.{machine, and_then}
+use Rattle.eval_expressions.specs.contract_semantics.Statements.{statements_run, block_run}
+use Rattle.eval_expressions.specs.contract_semantics.Statements.{block_ended, turns, loop_turn}
+use Rattle.eval_expressions.specs.contract_semantics.Statements.{loop_run}
+use Rattle.eval_expressions.specs.Runs.{IsLent}
 use Rattle.contract_eval.proofs.statement.+statement.Given as goal
 
 abbrev pub invariant-block-loop-x : goal.invariant-block-loop-x

@@ -4,7 +4,7 @@ use Rattle.contract_tree.specs.Tree.{tree_of, trees}
 use Rattle.contract_semantics.specs.Expressions.{values_of}
 use Rattle.contract_semantics.specs.Answers.{scene_in, place_in, IsFaithful}
 use Rattle.contract_semantics.specs.Steps.{machine}
-use Rattle.eval_builtins.specs.Runs.{IsLent}
+use Rattle.eval_expressions.specs.Runs.{IsLent}
 use Rattle.eval_expressions.proofs.expression.+value.Given as goal
 
 abbrev pub invariant-values-loop-x : goal.invariant-values-loop-x

@@ -1,5 +1,5 @@
 use Rattle.std.proofs.Common.{◌≡◌, ◌++◌, ◌∙◌, ℕ, List, [], length, ap, sym, arith}
-use Rattle.lineage_store.specs.root_laws.Root.{keys_of}
+use Rattle.plain_rows.specs.root_laws.Root.{keys_of}
 use Rattle.lineage_index.specs.Growth.{deps_touched, entry_of, keys_touched}
 use Rattle.lineage_index.specs.Leaves.{leaf_indexes}
 use Rattle.lineage_index.specs.Heads.{open_list}

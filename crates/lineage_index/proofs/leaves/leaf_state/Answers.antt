@@ -1,5 +1,5 @@
 use Rattle.std.proofs.Common.{map}
-use Rattle.lineage_store.specs.root_laws.Root.{keys_of}
+use Rattle.plain_rows.specs.root_laws.Root.{keys_of}
 use Rattle.lineage_index.specs.Heads.{open_list}
 use Rattle.lineage_index.proofs.Renewed.{row_within, state_told}
 use Rattle.lineage_index.proofs.leaves.leaf_state.Goals as goal

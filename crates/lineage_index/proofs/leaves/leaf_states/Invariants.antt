@@ -1,7 +1,7 @@
 use Rattle.std.proofs.Common.{◌≡◌, List, take, map}
 use Rattle.std.specs.List.{All}
 use Rattle.lc_base.specs.declared.row.Row.{Row}
-use Rattle.lineage_store.specs.root_laws.Root.{keys_of}
+use Rattle.plain_rows.specs.root_laws.Root.{keys_of}
 use Rattle.lineage_index.specs.Leaves.{AreBesideLeaves, IsLeafIndex, state_of}
 use Rattle.lineage_index.proofs.leaves.leaf_states.Given as goal
 

@@ -1,7 +1,7 @@
 use Rattle.std.proofs.Common.{◌++◌, ◌∷◌, [], ◌∙◌, List, take, ap, sym, arith}
 use Rattle.std.proofs.lemmas.List.{take_all, take_more}
 use Rattle.lc_base.specs.declared.row.Row.{Row}
-use Rattle.lineage_store.specs.Entries.{entries_of}
+use Rattle.lineage_index.specs.Entries.{entries_of}
 use Rattle.lineage_index.proofs.NewEntries.{body_at, entries_first, next_at}
 use Rattle.lineage_index.proofs.new_entries.add_entries.Goals as goal
 

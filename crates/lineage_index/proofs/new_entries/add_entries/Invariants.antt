@@ -1,6 +1,6 @@
 use Rattle.std.proofs.Common.{◌≡◌, ◌++◌, ℕ, List, take}
 use Rattle.lc_base.specs.declared.row.Row.{Row}
-use Rattle.lineage_store.specs.Entries.{entries_of}
+use Rattle.lineage_index.specs.Entries.{entries_of}
 use Rattle.lineage_index.specs.NewEntries.{AreUsing}
 use Rattle.lineage_index.proofs.new_entries.add_entries.Given as goal
 

@@ -1,7 +1,7 @@
 use Rattle.std.proofs.Common.{◌++◌, ◌∷◌, [], ◌∙◌, ap}
 use Rattle.std.proofs.lemmas.List.{append_assoc}
-use Rattle.lineage_store.specs.root_laws.Root.{keys_of}
-use Rattle.lineage_store.specs.Entries.{entries_of}
+use Rattle.plain_rows.specs.root_laws.Root.{keys_of}
+use Rattle.lineage_index.specs.Entries.{entries_of}
 use Rattle.lineage_index.specs.Growth.{entry_of, open_uses}
 use Rattle.lineage_index.specs.NewEntries.{states_with_uses}
 use Rattle.lineage_index.proofs.KeptStates.{lists_of_heads}

@@ -1,4 +1,4 @@
-use Rattle.lineage_store.specs.root_laws.Root.{keys_of}
+use Rattle.plain_rows.specs.root_laws.Root.{keys_of}
 use Rattle.lineage_index.proofs.NewestRows.{newest_known, newest_unknown, newest_within}
 use Rattle.lineage_index.proofs.newest_row.newest_row_of.Goals as goal
 

@@ -4,7 +4,7 @@ use Rattle.std.proofs.lemmas.List.{length-drop}
 use Rattle.std.proofs.lemmas.List.Elements.{All-more}
 use Rattle.std.proofs.lemmas.Option.{get_or_from_slice_get}
 use Rattle.lc_base.specs.declared.row.Row.{Row}
-use Rattle.entry_store.specs.declared.entry.Facts.{Facts}
+use Rattle.lineage_index.specs.entry_store.declared.entry.Facts.{Facts}
 use Rattle.lineage_index.proofs.BlockSteps.{as_many_entries}
 use Rattle.lineage_index.proofs.NewestRows.{row_at}
 use Rattle.lineage_rewind.proofs.Reading.{facts_read}

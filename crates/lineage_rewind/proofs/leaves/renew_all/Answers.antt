@@ -1,6 +1,6 @@
 use Rattle.std.proofs.Common.{◌∙◌, List, [], length, ap}
 use Rattle.std.specs.List.{range_with_len}
-use Rattle.root_laws.specs.Root.{keys_of}
+use Rattle.lineage_index.specs.root_laws.Root.{keys_of}
 use Rattle.lineage_index.specs.state_tree.declared.states.LeafState.{LeafState}
 use Rattle.lineage_index.specs.state_tree.Leaves.{with_states}
 use Rattle.lineage_index.proofs.LeafStates.{beside_leaves, states_within}

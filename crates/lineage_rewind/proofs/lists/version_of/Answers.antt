@@ -1,7 +1,7 @@
 use Rattle.std.proofs.Common.{◌∙◌, ap, arith}
 use Rattle.std.proofs.lemmas.Option.{slice_get_within}
 use Rattle.lc_base.specs.declared.row.Dep.{Dep}
-use Rattle.entry_store.specs.declared.entry.Facts.{Facts}
+use Rattle.lineage_index.specs.entry_store.declared.entry.Facts.{Facts}
 use Rattle.lineage_index.proofs.BlockSteps.{as_many_entries}
 use Rattle.lineage_rewind.proofs.Reading.{facts_read, row_of_version}
 use Rattle.lineage_rewind.proofs.lists.version_of.Goals as goal

@@ -4,7 +4,7 @@ use Rattle.std.proofs.Common.{arith}
 use Rattle.std.proofs.lemmas.List.{take_more, take_all, length-take-le}
 use Rattle.std.proofs.lemmas.Option.{get_or_from_slice_get}
 use Rattle.lc_base.specs.declared.row.Row.{Row}
-use Rattle.entry_store.specs.declared.entry.Facts.{Facts}
+use Rattle.lineage_index.specs.entry_store.declared.entry.Facts.{Facts}
 use Rattle.lineage_index.specs.Heads.{with_version}
 use Rattle.lineage_index.proofs.BlockSteps.{as_many_entries}
 use Rattle.lineage_index.proofs.NewestRows.{row_at}

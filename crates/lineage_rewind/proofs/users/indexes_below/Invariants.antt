@@ -1,5 +1,5 @@
 use Rattle.std.proofs.Common.{◌≡◌, take}
-use Rattle.rows_index.specs.First.{numbers_below}
+use Rattle.lineage_index.specs.plain_rows.First.{numbers_below}
 use Rattle.lineage_rewind.proofs.users.indexes_below.Given as goal
 
 abbrev pub invariant-loop-index : goal.invariant-loop-index

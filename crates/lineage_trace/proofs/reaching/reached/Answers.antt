@@ -7,11 +7,11 @@ use Rattle.lc_base.specs.declared.row.Row.{Row}
 use Rattle.lc_base.specs.History.{latest}
 use Rattle.skip_links.specs.Paths.{path}
 use Rattle.entry_store.specs.Steps.{raised_count}
-use Rattle.merkle_dag.specs.Ledger.{most_looked_at}
-use Rattle.merkle_dag.specs.Staying.{stays_refl, stays_trans}
-use Rattle.merkle_dag.proofs.Causes.{unblamed}
-use Rattle.row_ancestors.specs.Ancestors.{itself, all_inserted, deps_of}
-use Rattle.row_ancestors.specs.Steps.{steps_of}
+use Rattle.prov_query.specs.merkle_dag.Ledger.{most_looked_at}
+use Rattle.prov_query.specs.merkle_dag.Staying.{stays_refl, stays_trans}
+use Rattle.prov_query.proofs.merkle_dag.Causes.{unblamed}
+use Rattle.root_laws.specs.Ancestors.{itself, all_inserted, deps_of}
+use Rattle.root_laws.specs.AncestorSteps.{steps_of}
 use Rattle.lineage_trace.proofs.Counts.{none_counted, one_counted, rises_found, stays_counted}
 use Rattle.lineage_trace.proofs.Counts.{few_more, few_of_all}
 use Rattle.lineage_trace.proofs.OneMore.{begins, goes_on, counted_so_far, ends, ends_full}

@@ -1,11 +1,11 @@
 use Rattle.std.proofs.Common.{◌≡◌, ◌≤◌, ◌+◌, ◌*◌, true, length}
 use Rattle.std.specs.List.{Contains}
 use Rattle.lc_base.specs.declared.row.Row.{Row}
-use Rattle.scratch_model.specs.Scratch.{is_known}
+use Rattle.lc_io.specs.Scratch.{is_known}
 use Rattle.entry_store.specs.Steps.{raised_count}
-use Rattle.merkle_dag.specs.Ledger.{most_looked_at}
-use Rattle.merkle_dag.specs.Lineage.{StaysSame}
-use Rattle.row_ancestors.specs.Steps.{steps_of}
+use Rattle.prov_query.specs.merkle_dag.Ledger.{most_looked_at}
+use Rattle.prov_query.specs.merkle_dag.Lineage.{StaysSame}
+use Rattle.root_laws.specs.AncestorSteps.{steps_of}
 use Rattle.lineage_trace.proofs.OneMore.{IsReaching}
 use Rattle.lineage_trace.proofs.reaching.reached.Given as goal
 

@@ -8,8 +8,8 @@ use Rattle.lc_base.specs.declared.row.Row.{Row}
 use Rattle.lc_base.specs.History.{latest}
 use Rattle.skip_links.specs.Paths.{path}
 use Rattle.entry_store.specs.Steps.{raised_count}
-use Rattle.merkle_dag.specs.Ledger.{most_looked_at}
-use Rattle.row_ancestors.specs.Steps.{steps_of, trace_steps}
+use Rattle.prov_query.specs.merkle_dag.Ledger.{most_looked_at}
+use Rattle.root_laws.specs.AncestorSteps.{steps_of, trace_steps}
 use Rattle.lineage_trace.specs.declared.finding.Derived.{Derived}
 use Rattle.lineage_trace.specs.Counting.{RisesUpTo}
 use Rattle.lineage_trace.specs.Finding.{derived_of, IsButForDeps}

@@ -1,5 +1,5 @@
 use Rattle.std.proofs.Common.{arith}
-use Rattle.row_ancestors.specs.Ancestors.{all_inserted, itself}
+use Rattle.root_laws.specs.Ancestors.{all_inserted, itself}
 use Rattle.lineage_trace.proofs.InTurn.{one_inserted, none_left}
 use Rattle.lineage_trace.proofs.wanted.insert_all.Goals as goal
 

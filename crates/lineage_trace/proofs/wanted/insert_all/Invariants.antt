@@ -1,5 +1,5 @@
 use Rattle.std.proofs.Common.{◌≡◌, drop}
-use Rattle.row_ancestors.specs.Ancestors.{all_inserted, itself}
+use Rattle.root_laws.specs.Ancestors.{all_inserted, itself}
 use Rattle.lineage_trace.proofs.wanted.insert_all.Given as goal
 
 abbrev pub invariant-loop-version : goal.invariant-loop-version

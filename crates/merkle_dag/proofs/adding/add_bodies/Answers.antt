@@ -1,6 +1,6 @@
 use Rattle.std.proofs.Common.{◌≡◌, ◌∙◌, ◌++◌, ◌∷◌, [], ℕ, List, length, take, ap, arith}
 use Rattle.std.proofs.Math.Seq.{take-length}
-use Rattle.scratch_model.proofs.Retaining.{retains_trans}
+use Rattle.lc_io.proofs.Retaining.{retains_trans}
 use Rattle.body_store.specs.Bodies.{bodies_in}
 use Rattle.merkle_dag.proofs.Causes.{blameless, unblamed}
 use Rattle.merkle_dag.proofs.NextRows.{bodies_more, one_longer}

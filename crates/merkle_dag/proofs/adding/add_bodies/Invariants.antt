@@ -1,5 +1,5 @@
 use Rattle.std.proofs.Common.{◌≡◌, ◌+◌, ◌++◌, length, take}
-use Rattle.scratch_model.specs.Scratch.{Retains}
+use Rattle.lc_io.specs.Scratch.{Retains}
 use Rattle.body_store.specs.Bodies.{bodies_in}
 use Rattle.body_store.specs.Agreement.{Agrees}
 use Rattle.merkle_dag.proofs.adding.add_bodies.Given as goal

@@ -5,13 +5,13 @@ use Rattle.std.proofs.lemmas.List.{length-append, length-map}
 use Rattle.std.proofs.lemmas.List.Elements.{All-append}
 use Rattle.sha2.specs.Sha256.{sha256}
 use Rattle.lc_base.specs.declared.row.Row.{Row}
-use Rattle.prov_entry.specs.declared.entry.Leaf.{Leaf}
-use Rattle.lineage_index.specs.lineage_store.root_laws.Root.{root_text, leaves}
+use Rattle.lineage_rewind.specs.prov_entry.declared.entry.Leaf.{Leaf}
+use Rattle.lineage_rewind.specs.root_laws.Root.{root_text, leaves}
 use Rattle.lineage_rewind.specs.root_laws.TypedLedger.{IsTypedRow}
-use Rattle.lineage_index.specs.Growth.{Grows}
-use Rattle.lineage_index.specs.Index.{IsIndexOf}
+use Rattle.lineage_rewind.specs.lineage_index.Growth.{Grows}
+use Rattle.lineage_rewind.specs.lineage_index.Index.{IsIndexOf}
 use Rattle.body_store.specs.Bodies.{bodies_in}
-use Rattle.entry_store.specs.Entries.{Entry}
+use Rattle.lineage_rewind.specs.entry_store.Entries.{Entry}
 use Rattle.merkle_dag.specs.declared.kept.Kept.{Kept}
 use Rattle.merkle_dag.specs.Adding.{bytes_of}
 use Rattle.merkle_dag.specs.Kept.{rows_kept}

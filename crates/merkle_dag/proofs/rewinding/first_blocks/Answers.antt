@@ -1,7 +1,7 @@
 use Rattle.std.proofs.Common.{◌∙◌, ◌+◌, [], ℕ, length, take, ap, arith}
 use Rattle.lc_base.specs.History.{up_to}
 use Rattle.body_store.specs.Bodies.{BodiesState}
-use Rattle.lineage_index.proofs.lineage_store.Entries.{as_many}
+use Rattle.lineage_rewind.proofs.lineage_index.StoreEntries.{as_many}
 use Rattle.merkle_dag.specs.Kept.{rows_kept}
 use Rattle.merkle_dag.specs.Lineage.{first_bodies}
 use Rattle.merkle_dag.proofs.FirstBlocks.{as_many_roots, count_within, first_keeps, first_typed}

@@ -1,6 +1,6 @@
 use Rattle.std.proofs.Common.{◌∙◌, Some, ap, sym, arith}
 use Rattle.std.proofs.lemmas.Option.{slice_get-get_or, slice_get_past, slice_get_within}
-use Rattle.rows_index.proofs.Lists.{as_long}
+use Rattle.lineage_rewind.proofs.plain_rows.Lists.{as_long}
 use Rattle.merkle_dag.proofs.Versions.{version_row}
 use Rattle.merkle_dag.proofs.uses.nth_version.Goals as goal
 

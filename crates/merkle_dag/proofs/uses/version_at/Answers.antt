@@ -1,7 +1,7 @@
 use Rattle.std.proofs.Common.{ap, arith}
-use Rattle.entry_store.specs.declared.entry.Facts.{Facts}
-use Rattle.lineage_index.proofs.lineage_store.Entries.{row_facts}
-use Rattle.lineage_index.proofs.BlockSteps.{as_many_entries}
+use Rattle.lineage_rewind.specs.entry_store.declared.entry.Facts.{Facts}
+use Rattle.lineage_rewind.proofs.lineage_index.StoreEntries.{row_facts}
+use Rattle.lineage_rewind.proofs.lineage_index.BlockSteps.{as_many_entries}
 use Rattle.merkle_dag.proofs.uses.version_at.Goals as goal
 
 pub facts-facts-requires : goal.facts-facts-requires

@@ -1,7 +1,7 @@
 use Rattle.std.proofs.Common.{◌≡◌, ◌∙◌, length, get_or, take, ap, arith}
 use Rattle.std.proofs.Math.Seq.{take-length}
 use Rattle.std.proofs.lemmas.Option.{slice_get-get_or, slice_get_within}
-use Rattle.rows_index.proofs.Lists.{as_long}
+use Rattle.lineage_rewind.proofs.plain_rows.Lists.{as_long}
 use Rattle.merkle_dag.proofs.Versions.{version_row}
 use Rattle.merkle_dag.proofs.Versions.{one_more}
 use Rattle.merkle_dag.proofs.uses.versions_at.Goals as goal

@@ -1,8 +1,8 @@
 use Rattle.std.proofs.Common.{◌≡◌, List, take}
 use Rattle.lc_base.specs.declared.row.Row.{Row}
 use Rattle.lc_base.specs.declared.row.Dep.{Dep}
-use Rattle.rows_index.specs.Users.{AreVersionsAt}
-use Rattle.lineage_index.specs.lineage_store.Entries.{entries_of}
+use Rattle.lineage_rewind.specs.plain_rows.Users.{AreVersionsAt}
+use Rattle.lineage_rewind.specs.lineage_index.Entries.{entries_of}
 use Rattle.merkle_dag.proofs.uses.versions_at.Given as goal
 
 abbrev pub invariant-loop-place : goal.invariant-loop-place

@@ -3,7 +3,7 @@ use Rattle.std.proofs.Common.{rules, ◌≡◌, ◌-◌, ◌<◌, map, Err, sym,
 use Rattle.parse_expression.specs.declared.build.Subtree.{Subtree}
 use Rattle.parse_expression.specs.declared.build.Subtrees.{Subtrees}
 use Rattle.contract_tree.specs.Tree.{tree_of}
-use Rattle.contract_tokens.specs.declared.token.Mark.TheVariants as m
+use Rattle.contract_grammar.specs.contract_tokens.declared.token.Mark.TheVariants as m
 use Rattle.contract_grammar.specs.Grammar.{is_chained}
 use Rattle.contract_grammar.specs.Marks.{is, has, sign_of}
 use Rattle.contract_grammar.specs.Rules.{put, each, turns, next}

@@ -1,6 +1,6 @@
 use Rattle.std.proofs.Common.{◌≡◌, ◌-◌, map, length, ◌+◌, ◌*◌}
 use Rattle.contract_tree.specs.Tree.{tree_of}
-use Rattle.contract_tokens.specs.declared.token.Mark.TheVariants as m
+use Rattle.contract_grammar.specs.contract_tokens.declared.token.Mark.TheVariants as m
 use Rattle.contract_grammar.specs.Marks.{is, has, sign_of}
 use Rattle.contract_grammar.specs.Rules.{turns, each}
 use Rattle.contract_grammar.specs.Reading.{operand, comma_then, level_of, binary}

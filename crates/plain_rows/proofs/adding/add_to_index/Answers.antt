@@ -5,8 +5,8 @@ use Rattle.std.proofs.lemmas.List.Elements.{All-append, All-cons, All-nil}
 use Rattle.std.proofs.Math.Seq.{take-length}
 use Rattle.lc_base.specs.declared.row.Row.{Row}
 use Rattle.lc_base.specs.History.{IsLawful}
-use Rattle.rows_index.specs.Index.{IsIndexOf, IsNext}
-use Rattle.rows_index.proofs.OneRow.{split_at}
+use Rattle.plain_rows.specs.Index.{IsIndexOf, IsNext}
+use Rattle.plain_rows.proofs.OneRow.{split_at}
 use Rattle.root_laws.specs.TypedLedger.{IsTypedRow}
 use Rattle.plain_rows.specs.declared.kept.KeptRow.{KeptRow}
 use Rattle.plain_rows.specs.Kept.{AreKept, rows_with}

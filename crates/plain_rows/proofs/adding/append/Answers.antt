@@ -1,5 +1,5 @@
 use Rattle.std.proofs.Common.{◌∙◌, List, Option, refl, ap, sym, subst}
-use Rattle.rows_index.specs.declared.index.RowsIndex.{RowsIndex}
+use Rattle.plain_rows.specs.declared.index.RowsIndex.{RowsIndex}
 use Rattle.plain_rows.specs.declared.kept.KeptRow.{KeptRow}
 use Rattle.plain_rows.specs.Kept.{KeepsRows, rows_of}
 use Rattle.plain_rows.proofs.Keeping.{keeps_more, rows_of_more}

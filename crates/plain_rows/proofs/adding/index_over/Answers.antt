@@ -3,8 +3,8 @@ use Rattle.std.proofs.lemmas.List.{take_more}
 use Rattle.std.proofs.lemmas.Option.{get_or_from_slice_get, slice_get_within}
 use Rattle.lc_base.specs.declared.row.Row.{Row}
 use Rattle.lc_base.specs.History.{IsLawful}
-use Rattle.rows_index.specs.Index.{IsIndexOf, IsNext}
-use Rattle.rows_index.proofs.OneRow.{split_at}
+use Rattle.plain_rows.specs.Index.{IsIndexOf, IsNext}
+use Rattle.plain_rows.proofs.OneRow.{split_at}
 use Rattle.plain_rows.proofs.Keeping.{kept_at}
 use Rattle.plain_rows.proofs.adding.index_over.Goals as goal
 

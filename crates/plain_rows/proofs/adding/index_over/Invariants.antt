@@ -1,7 +1,7 @@
 use Rattle.std.proofs.Common.{List, take}
 use Rattle.lc_base.specs.declared.row.Row.{Row}
 use Rattle.lc_base.specs.History.{IsLawful}
-use Rattle.rows_index.specs.Index.{IsIndexOf}
+use Rattle.plain_rows.specs.Index.{IsIndexOf}
 use Rattle.plain_rows.specs.Kept.{AreKept}
 use Rattle.plain_rows.proofs.adding.index_over.Given as goal
 

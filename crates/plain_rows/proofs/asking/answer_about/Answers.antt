@@ -2,7 +2,7 @@ use Rattle.std.proofs.Common.{◌≡◌, ◌∙◌, List, ℕ, sym, subst}
 use Rattle.lc_base.specs.declared.answer.Answer.TheVariants as answers
 use Rattle.lc_base.specs.declared.answer.Kind.TheVariants.{Hist, Back, Fwd}
 use Rattle.lc_base.specs.History.{uses}
-use Rattle.rows_index.specs.Users.{AreVersionsAt}
+use Rattle.plain_rows.specs.Users.{AreVersionsAt}
 use Rattle.plain_rows.specs.Kept.{rows_of}
 use Rattle.plain_rows.proofs.AnswerParts.{answer_found}
 use Rattle.plain_rows.proofs.Keeping.{kept_there}

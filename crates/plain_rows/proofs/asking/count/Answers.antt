@@ -4,7 +4,7 @@ use Rattle.lc_base.specs.History.{scan}
 use Rattle.lc_base.specs.Parts.{list_in, question}
 use Rattle.plain_rows.specs.Kept.{rows_of}
 use Rattle.plain_rows.proofs.AnswerParts.{few_sources}
-use Rattle.rows_index.proofs.Lists.{as_long}
+use Rattle.plain_rows.proofs.Lists.{as_long}
 use Rattle.plain_rows.proofs.asking.count.Goals as goal
 
 pub returns-in-Some-clause-few : goal.returns-in-Some-clause-few

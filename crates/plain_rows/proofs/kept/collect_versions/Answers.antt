@@ -2,8 +2,8 @@ use Rattle.std.proofs.Common.{◌∙◌, ◌+◌, ◌∷◌, [], ◌++◌, ℕ, 
 use Rattle.std.proofs.lemmas.List.{take_more}
 use Rattle.std.proofs.lemmas.Option.{slice_get-get_or}
 use Rattle.lc_base.specs.declared.row.Dep.{Dep}
-use Rattle.rows_index.specs.Users.{AreVersionsAt}
-use Rattle.rows_index.proofs.Lists.{as_long, version_there, version_more, within}
+use Rattle.plain_rows.specs.Users.{AreVersionsAt}
+use Rattle.plain_rows.proofs.Lists.{as_long, version_there, version_more, within}
 use Rattle.plain_rows.proofs.kept.collect_versions.Goals as goal
 
 pub version_at-dep-requires : goal.version_at-dep-requires

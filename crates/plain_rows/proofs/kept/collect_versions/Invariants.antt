@@ -1,6 +1,6 @@
 use Rattle.std.proofs.Common.{List, take}
 use Rattle.lc_base.specs.declared.row.Row.{Row}
-use Rattle.rows_index.specs.Users.{AreVersionsAt}
+use Rattle.plain_rows.specs.Users.{AreVersionsAt}
 use Rattle.plain_rows.specs.Kept.{AreKept}
 use Rattle.plain_rows.proofs.kept.collect_versions.Given as goal
 

@@ -2,7 +2,7 @@ use Rattle.std.proofs.Common.{◌≡◌, ◌∙◌, Some, [], ap, sym, get_or, a
 use Rattle.std.specs.List.{slice_get}
 use Rattle.std.proofs.lemmas.Option.{slice_get-get_or, slice_get_past}
 use Rattle.lc_base.specs.declared.row.Dep.{Dep}
-use Rattle.rows_index.proofs.Lists.{as_long, none_at, version_there, within}
+use Rattle.plain_rows.proofs.Lists.{as_long, none_at, version_there, within}
 use Rattle.plain_rows.proofs.kept.nth_version.Goals as goal
 
 pub version_at-requires : goal.version_at-requires

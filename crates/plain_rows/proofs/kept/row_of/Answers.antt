@@ -1,5 +1,5 @@
 use Rattle.std.proofs.Common.{◌∙◌, List, ℕ, sym, subst}
-use Rattle.rows_index.specs.Users.{AreVersionsAt}
+use Rattle.plain_rows.specs.Users.{AreVersionsAt}
 use Rattle.plain_rows.proofs.kept.row_of.Goals as goal
 
 pub versions_at-requires : goal.versions_at-requires

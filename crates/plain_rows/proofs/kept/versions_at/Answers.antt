@@ -1,5 +1,5 @@
 use Rattle.std.proofs.Common.{◌∙◌}
-use Rattle.rows_index.proofs.Lists.{same_versions}
+use Rattle.plain_rows.proofs.Lists.{same_versions}
 use Rattle.plain_rows.proofs.kept.versions_at.Goals as goal
 
 pub returns : goal.returns

@@ -1,5 +1,5 @@
 use Rattle.std.proofs.Common.{◌≡◌, map, take}
-use Rattle.proof_verifier.specs.proof_checks.Checks.{dep_of}
+use Rattle.proof_checks.specs.Checks.{dep_of}
 use Rattle.proof_commands.proofs.answering.deps_of.Given as goal
 
 abbrev pub invariant-loop-i : goal.invariant-loop-i

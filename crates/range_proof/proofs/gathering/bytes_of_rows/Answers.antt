@@ -2,8 +2,8 @@ use Rattle.std.proofs.Common.{◌∙◌, ◌++◌, ◌<◌, ℕ, List, length, s
 use Rattle.std.specs.List.{concat}
 use Rattle.std.proofs.lemmas.List.Elements.{All-from_recursion}
 use Rattle.answer_proof.proofs.Gathered.{all_up_to_last}
-use Rattle.range_checks.specs.Making.{rows_back, made_range}
-use Rattle.lineage_range.specs.Finding.{AreRowsAt}
+use Rattle.proof_checks.specs.RangeMaking.{rows_back, made_range}
+use Rattle.range_proof.specs.Finding.{AreRowsAt}
 use Rattle.range_proof.specs.Proving.{IsButForBodies, fields_before_bodies}
 use Rattle.range_proof.proofs.Found.{Below, are_within}
 use Rattle.range_proof.proofs.Made.{all_written, others_written}

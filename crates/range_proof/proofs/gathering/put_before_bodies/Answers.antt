@@ -1,6 +1,6 @@
 use Rattle.std.proofs.Common.{◌<◌, length, subst, sym, arith}
 use Rattle.skip_links.specs.Paths.{path}
-use Rattle.lineage_store.specs.OnPath.{AreEntriesIn}
+use Rattle.prov_query.specs.lineage_index.OnPath.{AreEntriesIn}
 use Rattle.answer_proof.proofs.Gathered.{all_up_to_last}
 use Rattle.range_proof.proofs.Made.{audit_short, path_within, further_within, few_written}
 use Rattle.range_proof.proofs.Made.{before_bodies}

@@ -2,9 +2,9 @@ use Rattle.std.proofs.Common.{◌∙◌, ◌+◌, length, sym, ap, arith}
 use Rattle.std.proofs.lemmas.Bool.{eqb-true}
 use Rattle.std.proofs.lemmas.List.{length-take-le}
 use Rattle.std.proofs.lemmas.Option.{slice_get_within}
-use Rattle.merkle_dag.specs.Ledger.{Ledger}
-use Rattle.merkle_dag.specs.Staying.{stays_beside}
-use Rattle.range_checks.specs.Making.{made_range}
+use Rattle.prov_query.specs.merkle_dag.Ledger.{Ledger}
+use Rattle.prov_query.specs.merkle_dag.Staying.{stays_beside}
+use Rattle.proof_checks.specs.RangeMaking.{made_range}
 use Rattle.range_proof.proofs.Made.{bytes_of, but_for_bodies_of, made_again, last_taken}
 use Rattle.range_proof.proofs.proving.bytes_at.Goals as goal
 

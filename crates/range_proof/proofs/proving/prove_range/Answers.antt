@@ -1,6 +1,6 @@
 use Rattle.std.proofs.Common.{sym}
 use Rattle.std.proofs.lemmas.Option.{slice_get_within}
-use Rattle.merkle_dag.specs.Lineage.{ledger_in}
+use Rattle.prov_query.specs.merkle_dag.Lineage.{ledger_in}
 use Rattle.range_proof.proofs.Made.{shows}
 use Rattle.range_proof.proofs.proving.prove_range.Goals as goal
 

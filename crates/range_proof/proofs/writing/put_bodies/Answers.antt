@@ -4,8 +4,8 @@ use Rattle.std.proofs.Math.Seq.{take-length}
 use Rattle.std.proofs.lemmas.List.{append-nil, get_or_default}
 use Rattle.std.specs.List.{concat, flat_map}
 use Rattle.lc_base.specs.declared.row.Row.{Row}
-use Rattle.merkle_dag.specs.Staying.{stays_refl, stays_trans}
-use Rattle.merkle_dag.proofs.Causes.{unblamed}
+use Rattle.prov_query.specs.merkle_dag.Staying.{stays_refl, stays_trans}
+use Rattle.prov_query.proofs.merkle_dag.Causes.{unblamed}
 use Rattle.proof_codec.proofs.Written.{written_one}
 use Rattle.range_proof.specs.Parts.{body_fields_at, AddsBodies}
 use Rattle.range_proof.proofs.Written.{no_body, more_bodies}

@@ -1,7 +1,7 @@
 use Rattle.std.proofs.Common.{◌≡◌, ◌++◌, true, take}
 use Rattle.std.specs.List.{concat, flat_map}
-use Rattle.scratch_model.specs.Scratch.{is_known}
-use Rattle.merkle_dag.specs.Lineage.{StaysSame}
+use Rattle.lc_io.specs.Scratch.{is_known}
+use Rattle.prov_query.specs.merkle_dag.Lineage.{StaysSame}
 use Rattle.range_proof.specs.Parts.{body_fields_at, AddsBodies}
 use Rattle.range_proof.proofs.writing.put_bodies.Given as goal
 

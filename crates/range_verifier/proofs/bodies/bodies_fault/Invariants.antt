@@ -1,5 +1,5 @@
 use Rattle.std.proofs.Common.{◌≡◌, ◌+◌, ◌<◌, ◌^◌, length, map}
-use Rattle.range_checks.specs.Checks.{bodies_fault}
+use Rattle.proof_verifier.specs.proof_checks.RangeChecks.{bodies_fault}
 use Rattle.range_verifier.specs.Shown.{header_shown, body_shown}
 use Rattle.range_verifier.proofs.bodies.bodies_fault.Given as goal
 

@@ -1,6 +1,6 @@
 use Rattle.std.proofs.Common.{◌∙◌, ap, ap₂}
 use Rattle.proof_codec.specs.declared.proof.LeafProof.{LeafProof}
-use Rattle.proof_checks.specs.Checks.{expected_first}
+use Rattle.proof_verifier.specs.proof_checks.Checks.{expected_first}
 use Rattle.range_verifier.proofs.Faults.{path_by}
 use Rattle.range_verifier.proofs.checks.path_fault.Goals as goal
 

@@ -1,5 +1,5 @@
 use Rattle.std.proofs.Common.{◌≡◌, filter, length}
-use Rattle.range_checks.specs.Checks.{is_within}
+use Rattle.proof_verifier.specs.proof_checks.RangeChecks.{is_within}
 use Rattle.range_verifier.proofs.shown.next_within.Given as goal
 
 abbrev pub invariant-loop-header : goal.invariant-loop-header

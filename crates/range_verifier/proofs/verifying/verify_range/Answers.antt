@@ -1,7 +1,7 @@
 use Rattle.std.proofs.Common.{◌≡◌, List, Result, Err, IfErr, refl}
 use Rattle.lc_base.specs.Answers.{Answers}
 use Rattle.lc_base.specs.declared.row.Version.{Version}
-use Rattle.range_checks.specs.declared.reject.RangeReject.{RangeReject}
+use Rattle.proof_verifier.specs.proof_checks.declared.range_reject.RangeReject.{RangeReject}
 use Rattle.range_verifier.specs.declared.error.RangeError.{RangeError}
 use Rattle.range_verifier.specs.declared.error.RangeError.TheVariants.{Rejected}
 use Rattle.range_verifier.specs.Errors.{fault_told}

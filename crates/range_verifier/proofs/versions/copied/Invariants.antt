@@ -1,5 +1,5 @@
 use Rattle.std.proofs.Common.{◌≡◌, ◌++◌, map, length}
-use Rattle.range_checks.specs.Checks.{version_shown}
+use Rattle.proof_verifier.specs.proof_checks.RangeChecks.{version_shown}
 use Rattle.range_verifier.proofs.versions.copied.Given as goal
 
 abbrev pub invariant-loop-version : goal.invariant-loop-version

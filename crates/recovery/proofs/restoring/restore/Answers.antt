@@ -2,7 +2,7 @@ use Rattle.std.proofs.Common.{◌++◌, ◌∷◌, [], List, length, refl, sym, 
 use Rattle.std.proofs.lemmas.List.{length-map, map_push}
 use Rattle.std.proofs.lemmas.Result.{err_from_is_err_and}
 use Rattle.lc_base.specs.declared.digest.Digest.{Digest}
-use Rattle.scratch_model.proofs.Retaining.{retains_refl, retains_trans}
+use Rattle.lc_io.proofs.Retaining.{retains_refl, retains_trans}
 use Rattle.rooted_chain.proofs.merkle_dag.Causes.{unblamed}
 use Rattle.disk_model.specs.Disk.{content_of}
 use Rattle.disk_model.proofs.Moments.{stays_on, stays_here}

@@ -1,6 +1,6 @@
 use Rattle.std.proofs.Common.{◌≡◌, ◌+◌, ◌-◌, false, List}
 use Rattle.lc_io.specs.Disk.{Stays}
-use Rattle.scratch_model.specs.Scratch.{Retains}
+use Rattle.lc_io.specs.Scratch.{Retains}
 use Rattle.disk_model.specs.Disk.{content_of}
 use Rattle.block_log.specs.Log.{marks}
 use Rattle.block_log.specs.Reader.{AreRead}

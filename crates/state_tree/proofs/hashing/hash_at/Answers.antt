@@ -1,6 +1,6 @@
 use Rattle.std.proofs.Common.{◌∙◌, ap, sym}
 use Rattle.std.proofs.lemmas.Option.{get_or_from_slice_get}
-use Rattle.merkle_tree.specs.declared.setting_all.HashAt.{HashAt}
+use Rattle.root_laws.specs.merkle_tree.declared.setting_all.HashAt.{HashAt}
 use Rattle.lc_base.specs.declared.digest.Digest.{Digest}
 use Rattle.state_tree.proofs.Together.{leaf_digest, hash_there}
 use Rattle.state_tree.proofs.hashing.hash_at.Goals as goal

@@ -1,6 +1,6 @@
 use Rattle.std.proofs.Common.{List, ◌∙◌, subst, sym}
-use Rattle.merkle_tree.specs.declared.setting_all.HashAt.{HashAt}
-use Rattle.merkle_tree.specs.Levels.{Renews}
+use Rattle.root_laws.specs.merkle_tree.declared.setting_all.HashAt.{HashAt}
+use Rattle.root_laws.specs.merkle_tree.Levels.{Renews}
 use Rattle.state_tree.specs.Leaves.{leaf_hashes}
 use Rattle.state_tree.proofs.Together.{hash_count, renews}
 use Rattle.state_tree.proofs.hashing.hash_leaves.Goals as goal

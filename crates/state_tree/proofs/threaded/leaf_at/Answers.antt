@@ -1,5 +1,5 @@
 use Rattle.std.proofs.Common.{ℕ, List, [], Option, Some, ◌∙◌, ap, sym, arith}
-use Rattle.prov_entry.specs.declared.entry.Leaf.{Leaf}
+use Rattle.root_laws.specs.prov_entry.declared.entry.Leaf.{Leaf}
 use Rattle.state_tree.specs.Entries.{KeyEntry, leaf_of_entry}
 use Rattle.state_tree.proofs.Entries.{leaf_past}
 use Rattle.state_tree.proofs.threaded.leaf_at.Goals as goal

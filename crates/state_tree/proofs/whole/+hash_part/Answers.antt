@@ -1,6 +1,6 @@
 use Rattle.std.proofs.Common.{◌∙◌, ◌<◌, sym, arith}
-use Rattle.merkle_tree.specs.Tree.{node_hash}
-use Rattle.merkle_tree.proofs.Steps.{fits_back}
+use Rattle.root_laws.specs.merkle_tree.Tree.{node_hash}
+use Rattle.root_laws.proofs.merkle_tree.Steps.{fits_back}
 use Rattle.state_tree.proofs.Parts.{two_hashed, low_hashed}
 use Rattle.state_tree.proofs.whole.+hash_part.Goals as goal
 

@@ -1,5 +1,5 @@
 use Rattle.std.proofs.Common.{◌≡◌, length}
-use Rattle.trace_checks.specs.Checks.{with_deps}
+use Rattle.proof_verifier.specs.proof_checks.TraceChecks.{with_deps}
 use Rattle.trace_verifier.proofs.items.add_all.Given as goal
 
 abbrev pub invariant-loop-dep : goal.invariant-loop-dep

@@ -1,5 +1,5 @@
 use Rattle.std.proofs.Common.{◌≡◌, ◌+◌, ◌++◌, ◌^◌, ◌<◌, map, length}
-use Rattle.trace_checks.specs.Checks.{after_items, version_of_item}
+use Rattle.proof_verifier.specs.proof_checks.TraceChecks.{after_items, version_of_item}
 use Rattle.trace_verifier.proofs.items.check_items.Given as goal
 
 abbrev pub invariant-loop-item : goal.invariant-loop-item

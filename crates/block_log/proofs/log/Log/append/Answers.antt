@@ -1,6 +1,6 @@
 use Rattle.std.proofs.Common.{◌≡◌, ℕ, ◌+◌, length, take, sym, ◌∙◌, ap, arith}
 use Rattle.std.proofs.lemmas.List.{length-take-le}
-use Rattle.block_codec.specs.byte_fields.Spelling.{IsBytes}
+use Rattle.byte_fields.specs.Spelling.{IsBytes}
 use Rattle.disk_model.specs.Disk.{Torn}
 use Rattle.disk_model.proofs.Moments.{weaker}
 use Rattle.block_codec.specs.Reading.{block_in}

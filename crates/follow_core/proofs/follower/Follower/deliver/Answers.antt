@@ -1,7 +1,7 @@
 use Rattle.std.proofs.Common.{◌≡◌, true≢false, length, refl, sym, ap, ◌∙◌}
 use Rattle.std.specs.Prelude.{Ok}
 use Rattle.block_codec.specs.Reading.{block_in}
-use Rattle.scratch_model.proofs.Retaining.{retains_refl}
+use Rattle.lc_io.proofs.Retaining.{retains_refl}
 use Rattle.recovery.specs.Node.{NodeState, IsReady, stored_placement}
 use Rattle.recovery.proofs.ByLog.{still_log}
 use Rattle.recovery.proofs.Nodes.{still_only}

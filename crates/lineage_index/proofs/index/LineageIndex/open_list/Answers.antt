@@ -1,5 +1,5 @@
 use Rattle.std.proofs.Common.{map}
-use Rattle.lineage_store.specs.root_laws.Root.{keys_of}
+use Rattle.plain_rows.specs.root_laws.Root.{keys_of}
 use Rattle.lineage_index.specs.Growth.{entry_of}
 use Rattle.lineage_index.specs.Heads.{open_list}
 use Rattle.lineage_index.proofs.Listed.{not_listed, open_listed}

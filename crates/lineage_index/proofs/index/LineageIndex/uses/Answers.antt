@@ -1,6 +1,6 @@
 use Rattle.std.proofs.Common.{ap, arith}
-use Rattle.lineage_store.specs.entry_store.declared.entry.Facts.{Facts}
-use Rattle.lineage_store.proofs.Entries.{row_facts}
+use Rattle.skip_list.specs.entry_store.declared.entry.Facts.{Facts}
+use Rattle.lineage_index.proofs.StoreEntries.{row_facts}
 use Rattle.lineage_index.proofs.BlockSteps.{as_many_entries}
 use Rattle.lineage_index.proofs.NewestRows.{row_at}
 use Rattle.lineage_index.proofs.Listed.{versions_of_row}

@@ -1,6 +1,6 @@
 use Rattle.std.proofs.Common.{◌∙◌, map, ap}
-use Rattle.row_ancestors.specs.Ancestors.{inserted, itself}
-use Rattle.row_ancestors.specs.Places.{Place, version_at}
+use Rattle.root_laws.specs.Ancestors.{inserted, itself}
+use Rattle.root_laws.specs.Places.{Place, version_at}
 use Rattle.lineage_trace.proofs.Places.{put_in}
 use Rattle.lineage_trace.proofs.wanted.Wanted.insert.Goals as goal
 

@@ -2,10 +2,10 @@ use Rattle.std.proofs.Common.{◌≡◌, true, Some, arith}
 use Rattle.std.specs.List.{concat}
 use Rattle.std.specs.Rc.{rc_slice_items}
 use Rattle.std.proofs.lemmas.Result.{IfOk-weaker}
-use Rattle.scratch_model.specs.Scratch.{is_known}
+use Rattle.lc_io.specs.Scratch.{is_known}
 use Rattle.body_store.specs.Bodies.{body_at_index}
-use Rattle.prov_entry.specs.Spelling.{body_fields}
-use Rattle.lineage_index.specs.lineage_store.root_laws.Naming.{body_of}
+use Rattle.lineage_rewind.specs.prov_entry.Spelling.{body_fields}
+use Rattle.lineage_rewind.specs.root_laws.Naming.{body_of}
 use Rattle.merkle_dag.specs.Kept.{rows_kept}
 use Rattle.merkle_dag.proofs.RowBodies.{as_many_bodies, body_is}
 use Rattle.merkle_dag.proofs.lineage.Lineage.body_of.Goals as goal

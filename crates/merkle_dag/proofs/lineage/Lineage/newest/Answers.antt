@@ -1,5 +1,5 @@
 use Rattle.std.proofs.Common.{length, sym}
-use Rattle.lineage_index.proofs.NewestRows.{entry_known, entry_unknown}
+use Rattle.lineage_rewind.proofs.lineage_index.NewestRows.{entry_known, entry_unknown}
 use Rattle.merkle_dag.specs.Kept.{rows_kept}
 use Rattle.merkle_dag.proofs.lineage.Lineage.newest.Goals as goal
 

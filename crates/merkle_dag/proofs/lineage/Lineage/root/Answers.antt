@@ -1,6 +1,6 @@
 use Rattle.std.proofs.Common.{length}
 use Rattle.merkle_dag.specs.Kept.{rows_kept}
-use Rattle.lineage_index.specs.lineage_store.root_laws.Root.{root_of}
+use Rattle.lineage_rewind.specs.root_laws.Root.{root_of}
 use Rattle.merkle_dag.proofs.LedgerSteps.{root_found}
 use Rattle.merkle_dag.proofs.lineage.Lineage.root.Goals as goal
 

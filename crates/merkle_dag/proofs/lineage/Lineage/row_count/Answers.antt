@@ -1,5 +1,5 @@
 use Rattle.std.proofs.Common.{◌∙◌, length}
-use Rattle.lineage_index.proofs.BlockSteps.{as_many_entries}
+use Rattle.lineage_rewind.proofs.lineage_index.BlockSteps.{as_many_entries}
 use Rattle.merkle_dag.specs.Kept.{rows_kept}
 use Rattle.merkle_dag.proofs.lineage.Lineage.row_count.Goals as goal
 

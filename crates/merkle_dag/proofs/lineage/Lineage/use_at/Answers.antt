@@ -1,6 +1,6 @@
 use Rattle.std.proofs.Common.{length}
 use Rattle.lc_base.specs.History.{uses}
-use Rattle.lineage_index.proofs.NewestRows.{row_at}
+use Rattle.lineage_rewind.proofs.lineage_index.NewestRows.{row_at}
 use Rattle.merkle_dag.specs.Kept.{rows_kept}
 use Rattle.merkle_dag.proofs.lineage.Lineage.use_at.Goals as goal
 

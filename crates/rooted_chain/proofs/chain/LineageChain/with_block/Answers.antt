@@ -6,13 +6,13 @@ use Rattle.std.specs.Cmp.Lexicographic.{pointwise}
 use Rattle.lc_base.specs.History.{IsLawful}
 use Rattle.lc_base.specs.declared.digest.Digest.{Digest}
 use Rattle.lc_base.specs.declared.row.Row.{Row}
-use Rattle.scratch_model.specs.Scratch.{is_known}
+use Rattle.lc_io.specs.Scratch.{is_known}
 use Rattle.world_state.specs.declared.held.Held.{Held}
 use Rattle.chain_replay.specs.Chain.{IsAfter}
 use Rattle.chain_replay.proofs.Chains.{is_after, stands_after}
 use Rattle.root_laws.specs.Root.{root_of}
-use Rattle.lineage_host.specs.merkle_dag.Ledger.{Ledger}
-use Rattle.lineage_host.proofs.merkle_dag.Causes.{unblamed, blameless}
+use Rattle.prov_query.specs.merkle_dag.Ledger.{Ledger}
+use Rattle.prov_query.proofs.merkle_dag.Causes.{unblamed, blameless}
 use Rattle.rooted_chain.specs.Roots.{RootedState, kept_in}
 use Rattle.rooted_chain.proofs.Rooted.{rooted}
 use Rattle.rooted_chain.proofs.HasRun.{rooted_of, run_lawful, run_kept}

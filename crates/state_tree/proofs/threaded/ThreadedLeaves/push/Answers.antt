@@ -2,8 +2,8 @@ use Rattle.std.proofs.Common.{◌≡◌, ◌≤◌, ◌<◌, ◌+◌, ◌∙◌,
 use Rattle.std.proofs.Math.ListN.{set}
 use Rattle.std.specs.Prelude.{slice_get}
 use Rattle.std.specs.Map.{keys_of}
-use Rattle.merkle_tree.specs.declared.limits.TheConstants.{MAX_LEAVES}
-use Rattle.prov_entry.specs.declared.entry.Leaf.{Leaf}
+use Rattle.root_laws.specs.merkle_tree.declared.limits.TheConstants.{MAX_LEAVES}
+use Rattle.root_laws.specs.prov_entry.declared.entry.Leaf.{Leaf}
 use Rattle.state_tree.specs.Leaves.{with_leaf_after}
 use Rattle.state_tree.specs.Entries.{KeyEntry, key_at, next_at, fresh_entry, leaves_of, AreThreaded}
 use Rattle.state_tree.proofs.Entries.{leaves_length, none_kept, next_within, threaded_more, entry_threaded}

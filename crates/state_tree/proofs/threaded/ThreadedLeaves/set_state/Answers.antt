@@ -1,5 +1,5 @@
 use Rattle.std.proofs.Common.{◌∙◌, List, ap}
-use Rattle.prov_entry.specs.declared.entry.Leaf.{Leaf}
+use Rattle.root_laws.specs.prov_entry.declared.entry.Leaf.{Leaf}
 use Rattle.state_tree.specs.Leaves.{with_state}
 use Rattle.state_tree.proofs.Entries.{state_threaded, state_set, state_back}
 use Rattle.state_tree.proofs.threaded.ThreadedLeaves.set_state.Goals as goal

@@ -1,6 +1,6 @@
 use Rattle.std.proofs.Common.{◌∙◌, ◌<◌, length, List, ap, subst, sym}
-use Rattle.prov_entry.specs.declared.entry.Leaf.{Leaf}
-use Rattle.merkle_tree.specs.declared.limits.TheConstants.{MAX_LEAVES}
+use Rattle.root_laws.specs.prov_entry.declared.entry.Leaf.{Leaf}
+use Rattle.root_laws.specs.merkle_tree.declared.limits.TheConstants.{MAX_LEAVES}
 use Rattle.state_tree.specs.Covering.{Covers}
 use Rattle.state_tree.specs.Leaves.{with_leaf_of}
 use Rattle.state_tree.proofs.Covered.{stands}

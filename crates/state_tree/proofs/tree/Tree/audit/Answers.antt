@@ -1,8 +1,8 @@
 use Rattle.std.proofs.Common.{◌≡◌, ◌∙◌, sym, arith}
 use Rattle.std.proofs.lemmas.Bool.{eqb-true}
 use Rattle.std.proofs.lemmas.Result.{IfOk-weaker}
-use Rattle.merkle_tree.specs.Tree.{audit_path}
-use Rattle.merkle_tree.specs.Climbing.{bytes_of}
+use Rattle.root_laws.specs.merkle_tree.Tree.{audit_path}
+use Rattle.root_laws.specs.merkle_tree.Climbing.{bytes_of}
 use Rattle.state_tree.specs.Leaves.{leaf_texts}
 use Rattle.state_tree.proofs.Together.{texts_hashed}
 use Rattle.state_tree.proofs.tree.Tree.audit.Goals as goal

@@ -1,5 +1,5 @@
 use Rattle.std.proofs.Common.{List, ℕ, sym, subst}
-use Rattle.prov_entry.specs.declared.entry.Leaf.{Leaf}
+use Rattle.root_laws.specs.prov_entry.declared.entry.Leaf.{Leaf}
 use Rattle.state_tree.specs.Covering.{Covers}
 use Rattle.state_tree.proofs.Covered.{covers}
 use Rattle.state_tree.proofs.tree.Tree.covering.Goals as goal

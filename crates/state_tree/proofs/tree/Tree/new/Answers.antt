@@ -1,7 +1,7 @@
 use Rattle.std.proofs.Common.{◌≡◌, ◌∙◌, ◌∷◌, [], ◌++◌, List, ap, sym, subst, refl}
 use Rattle.std.specs.Prelude.{slice_get}
 use Rattle.lc_base.specs.declared.digest.Digest.{Digest}
-use Rattle.prov_entry.specs.declared.entry.Leaf.{Leaf}
+use Rattle.root_laws.specs.prov_entry.declared.entry.Leaf.{Leaf}
 use Rattle.root_laws.specs.Root.{sentinel}
 use Rattle.state_tree.specs.Leaves.{leaf_hashes}
 use Rattle.state_tree.specs.Order.{AreHashedBut}

@@ -1,5 +1,0 @@
-pub mod Numbers
-pub mod Keys
-pub mod Repeated
-pub mod Small
-pub mod Generating

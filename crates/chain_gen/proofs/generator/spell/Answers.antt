@@ -1,5 +1,0 @@
-use Rattle.std.proofs.Common.{Err, ap}
-use Rattle.chain_gen.proofs.generator.spell.Goals as goal
-
-pub unreachable-requires : goal.unreachable-requires
-unreachable-requires c = c.in-Err-Limit.ensures.limit (ap Err c.in-Err-Limit.field-0-is) _ c.requires

@@ -1,7 +1,0 @@
-use Rattle.std.proofs.Common.{[]}
-use Rattle.chain_gen.specs.Draws.{key_drawn}
-use Rattle.chain_gen.proofs.Repeated.{HasDrawn}
-use Rattle.chain_gen.proofs.txs.keys.Given as goal
-
-abbrev pub invariant-loop : goal.invariant-loop
-invariant-loop l = HasDrawn key_drawn [] l.fn.draws l.counter l.keys l.draws

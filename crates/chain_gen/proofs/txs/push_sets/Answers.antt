@@ -1,9 +1,0 @@
-use Rattle.chain_gen.specs.Transactions.{set_drawn}
-use Rattle.chain_gen.proofs.Repeated.{has_drawn_none, has_drawn_more}
-use Rattle.chain_gen.proofs.txs.push_sets.Goals as goal
-
-pub loop-init : goal.loop-init
-loop-init c = has_drawn_none set_drawn c.args.txs.now c.args.draws.now
-
-pub loop-preserved : goal.loop-preserved
-loop-preserved c = has_drawn_more set_drawn c.args.txs.now c.args.draws.now c.loop.counter c.loop.txs c.push.new.self c.loop.draws c.set.new.draws c.in_ok-set.field-0 c.loop.invariant c.in_ok-set.ensures.tx c.in_ok-set.ensures.state c.in_ok-push.ensures.ok

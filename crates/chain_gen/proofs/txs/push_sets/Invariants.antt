@@ -1,6 +1,0 @@
-use Rattle.chain_gen.specs.Transactions.{set_drawn}
-use Rattle.chain_gen.proofs.Repeated.{HasDrawn}
-use Rattle.chain_gen.proofs.txs.push_sets.Given as goal
-
-abbrev pub invariant-loop : goal.invariant-loop
-invariant-loop l = HasDrawn set_drawn l.fn.txs l.fn.draws l.counter l.txs l.draws

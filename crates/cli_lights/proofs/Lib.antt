@@ -1,5 +1,0 @@
-pub mod Framed
-pub mod Proofs
-pub mod Checked
-pub mod Read
-pub mod Made

@@ -1,1 +1,0 @@
-pub use Rattle.cli_proofs.specs as cli_proofs

@@ -1,5 +1,0 @@
-use Rattle.contract_laws.proofs.TheLaws.{larger_budget_changes_nothing}
-use Rattle.contract_laws.proofs.budget.larger_budget_changes_nothing.Goals as goal
-
-pub returns : goal.returns
-returns c = larger_budget_changes_nothing

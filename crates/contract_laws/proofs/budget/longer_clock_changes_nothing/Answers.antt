@@ -1,5 +1,0 @@
-use Rattle.contract_laws.proofs.TheLaws.{longer_clock_changes_nothing}
-use Rattle.contract_laws.proofs.budget.longer_clock_changes_nothing.Goals as goal
-
-pub returns : goal.returns
-returns c = longer_clock_changes_nothing

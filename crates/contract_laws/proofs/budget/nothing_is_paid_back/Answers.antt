@@ -1,5 +1,0 @@
-use Rattle.contract_laws.proofs.TheLaws.{nothing_is_paid_back}
-use Rattle.contract_laws.proofs.budget.nothing_is_paid_back.Goals as goal
-
-pub returns : goal.returns
-returns c = nothing_is_paid_back

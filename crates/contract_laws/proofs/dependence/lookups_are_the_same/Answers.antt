@@ -1,5 +1,0 @@
-use Rattle.contract_laws.proofs.TheLaws.{lookups_are_the_same}
-use Rattle.contract_laws.proofs.dependence.lookups_are_the_same.Goals as goal
-
-pub returns : goal.returns
-returns c = lookups_are_the_same

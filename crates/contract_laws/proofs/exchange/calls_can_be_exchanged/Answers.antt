@@ -1,5 +1,0 @@
-use Rattle.contract_laws.proofs.EndsWell.{calls_can_be_exchanged}
-use Rattle.contract_laws.proofs.exchange.calls_can_be_exchanged.Goals as goal
-
-pub returns : goal.returns
-returns c = calls_can_be_exchanged

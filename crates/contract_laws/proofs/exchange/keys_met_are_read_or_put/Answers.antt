@@ -1,5 +1,0 @@
-use Rattle.contract_laws.proofs.EndsWell.{keys_met_are_read_or_put}
-use Rattle.contract_laws.proofs.exchange.keys_met_are_read_or_put.Goals as goal
-
-pub returns : goal.returns
-returns c = keys_met_are_read_or_put

@@ -1,5 +1,0 @@
-use Rattle.contract_laws.proofs.EndsWell.{reads_and_puts_are_complete}
-use Rattle.contract_laws.proofs.exchange.reads_and_puts_are_complete.Goals as goal
-
-pub returns : goal.returns
-returns c = reads_and_puts_are_complete

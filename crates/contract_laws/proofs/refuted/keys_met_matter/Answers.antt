@@ -1,5 +1,0 @@
-use Rattle.contract_laws.proofs.False.{keys_met_matter}
-use Rattle.contract_laws.proofs.refuted.keys_met_matter.Goals as goal
-
-pub returns : goal.returns
-returns c = keys_met_matter

@@ -1,5 +1,0 @@
-use Rattle.contract_laws.proofs.EndsWell.{failures_are_not_ok}
-use Rattle.contract_laws.proofs.versions.failures_are_not_ok.Goals as goal
-
-pub returns : goal.returns
-returns c = failures_are_not_ok

@@ -1,5 +1,0 @@
-use Rattle.contract_laws.proofs.TheLaws.{reads_are_only_added}
-use Rattle.contract_laws.proofs.versions.reads_are_only_added.Goals as goal
-
-pub returns : goal.returns
-returns c = reads_are_only_added

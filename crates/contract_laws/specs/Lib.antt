@@ -1,5 +1,0 @@
-pub mod Lookups
-pub mod CallLookups
-pub mod Laws
-pub mod ExchangeLaws
-pub mod FalseLaws

@@ -1,5 +1,0 @@
-use Rattle.crash_promises.proofs.Runs.{begun_prefix}
-use Rattle.crash_promises.proofs.laws.begun_is_prefix.Goals as goal
-
-pub returns : goal.returns
-returns c = begun_prefix

@@ -1,5 +1,0 @@
-use Rattle.crash_promises.proofs.Runs.{hold}
-use Rattle.crash_promises.proofs.laws.runs_hold.Goals as goal
-
-pub returns : goal.returns
-returns c = hold

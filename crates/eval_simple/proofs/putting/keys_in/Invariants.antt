@@ -1,6 +1,0 @@
-use Rattle.std.proofs.Common.{◌≡◌, [], drop}
-use Rattle.contract_semantics.specs.Puts.{keys_in}
-use Rattle.eval_simple.proofs.putting.keys_in.Given as goal
-
-abbrev pub invariant-loop-value : goal.invariant-loop-value
-invariant-loop-value l = keys_in l.keys (drop l.value-index l.values) ≡ keys_in [] l.values

@@ -1,0 +1,199 @@
+//! Scratch devices: in memory, and over files.
+
+use file_scratch::FileScratch;
+use lc_io::{Failed, MemScratch, Room, Scratch};
+use std::fs;
+use std::fs::File;
+
+/// The name at which a device makes its file, in the current folder.
+const FILE: &str = "chain.scratch";
+
+/// A file of the tests, which exists neither before them nor after them.
+const SHORT_FILE: &str = "chain_tests.short";
+
+/// The bytes of a user's file.
+const KEPT: &[u8] = b"a file of the same name";
+
+/// Puts two texts, and gets the first one back.
+fn put_two<S: Scratch>(scratch: &mut S, got: &mut [u8; 3]) -> Result<(u64, u64), Failed> {
+    let first = scratch.put(b"abc")?;
+    let second = scratch.put(b"de")?;
+    scratch.get(first, got)?;
+    Ok((first, second))
+}
+
+/// Puts three texts, and gets the last two back, the third one first.
+fn put_three<S: Scratch>(
+    scratch: &mut S,
+    second: &mut [u8; 2],
+    third: &mut [u8; 4],
+) -> Result<(), Failed> {
+    let _first = scratch.put(b"abc")?;
+    let second_place = scratch.put(b"de")?;
+    let third_place = scratch.put(b"fghi")?;
+    scratch.get(third_place, third)?;
+    scratch.get(second_place, second)
+}
+
+/// Does so on a device over a file, which is closed then.
+fn get_later_ones(
+    rt: &HostRuntime,
+    second: &mut [u8; 2],
+    third: &mut [u8; 4],
+) -> Result<(), Failed> {
+    let Ok(mut scratch) = FileScratch::new(rt.alloc(), rt, ".") else {
+        return Err(Failed);
+    };
+    let done = put_three(&mut scratch, second, third);
+    let closed = scratch.close();
+    done?;
+    closed
+}
+
+#[test]
+fn scratch_file_at_later_places(rt: HostRuntime) {
+    let (mut second, mut third) = ([0; 2], [0; 4]);
+    assert!(rt; get_later_ones(&rt, &mut second, &mut third) == Ok(()));
+    assert!(rt; second == *b"de");
+    assert!(rt; third == *b"fghi");
+}
+
+/// Puts a text on each of two devices, and then gets both back.
+fn put_on_both<A: Scratch, B: Scratch>(
+    one: &mut A,
+    other: &mut B,
+    got_one: &mut [u8; 3],
+    got_other: &mut [u8; 3],
+) -> Result<(), Failed> {
+    let place = one.put(b"abc")?;
+    let other_place = other.put(b"xyz")?;
+    one.get(place, got_one)?;
+    other.get(other_place, got_other)
+}
+
+#[test]
+fn scratch_in_memory(rt: HostRuntime) {
+    let room = Room { calls: 4, bytes: 6 };
+    let Ok(mut scratch) = MemScratch::new(rt.alloc(), room, &[3]) else {
+        assert!(rt; false);
+        return;
+    };
+    let mut got = [0; 3];
+    assert!(rt; put_two(&mut scratch, &mut got) == Ok((0, 3)));
+    assert!(rt; got == *b"abc");
+    assert!(rt; scratch.gets() == 1);
+    // Two more bytes do not fit the room, and the call takes no number; the next one fails by its
+    // number.
+    assert!(rt; scratch.put(b"fg") == Err(Failed));
+    assert!(rt; scratch.put(b"f") == Err(Failed));
+    assert!(rt; scratch.gets() == 1);
+}
+
+/// Whether there is a file of this name, or it can't be looked for.
+fn is_there(rt: &HostRuntime, name: &str) -> bool {
+    fs::exists(rt, name).unwrap_or(true)
+}
+
+/// Does so on a device and on one over a file, which is closed then. Whether a file of a device has
+/// a name while both are open.
+fn put_beside<S: Scratch>(
+    rt: &HostRuntime,
+    one: &mut S,
+    got_one: &mut [u8; 3],
+    got_other: &mut [u8; 3],
+) -> Result<bool, Failed> {
+    let Ok(mut other) = FileScratch::new(rt.alloc(), rt, ".") else {
+        return Err(Failed);
+    };
+    let done = put_on_both(one, &mut other, got_one, got_other);
+    let is_named = is_there(rt, "chain.scratch_") || is_there(rt, "chain.scratch__");
+    let closed = other.close();
+    done?;
+    closed?;
+    Ok(is_named)
+}
+
+/// Does so on two devices over files, which are closed then.
+fn put_on_files(
+    rt: &HostRuntime,
+    got_one: &mut [u8; 3],
+    got_other: &mut [u8; 3],
+) -> Result<bool, Failed> {
+    let Ok(mut one) = FileScratch::new(rt.alloc(), rt, ".") else {
+        return Err(Failed);
+    };
+    let done = put_beside(rt, &mut one, got_one, got_other);
+    let closed = one.close();
+    closed?;
+    done
+}
+
+/// Whether a file has these bytes.
+fn holds(rt: &HostRuntime, name: &str, wanted: &[u8]) -> bool {
+    match fs::read(rt, name) {
+        Ok(bytes) => bytes.as_slice() == wanted,
+        Err(_) => false,
+    }
+}
+
+#[test]
+fn scratch_files_without_names(rt: HostRuntime) {
+    // A file that has the name of the scratch file stays as it is.
+    assert!(rt; fs::write(&rt, FILE, KEPT).is_ok());
+    // Each device has a file of its own. While they are open, none of them has a name.
+    let (mut got_one, mut got_other) = ([0; 3], [0; 3]);
+    assert!(rt; put_on_files(&rt, &mut got_one, &mut got_other) == Ok(false));
+    assert!(rt; got_one == *b"abc");
+    assert!(rt; got_other == *b"xyz");
+    assert!(rt; holds(&rt, FILE, KEPT));
+    assert!(rt; fs::remove_file(&rt, FILE).is_ok());
+}
+
+/// Puts two texts on a device over a file, cuts the file to `len` bytes, and gets the second text.
+fn get_after_cut<S: Scratch>(
+    scratch: &mut S,
+    file: &File,
+    len: u64,
+    got: &mut [u8; 2],
+) -> Result<(), Failed> {
+    scratch.put(b"abc")?;
+    let second = scratch.put(b"de")?;
+    if file.set_len(len).is_err() {
+        return Ok(());
+    }
+    scratch.get(second, got)
+}
+
+/// Does so on a new file, which is removed then.
+fn get_from_short(rt: &HostRuntime, len: u64, got: &mut [u8; 2]) -> Result<(), Failed> {
+    let Ok(file) = File::create_new(rt, SHORT_FILE) else {
+        return Ok(());
+    };
+    let Ok(cut) = file.try_clone() else {
+        return Ok(());
+    };
+    let mut scratch = FileScratch::over(rt.alloc(), rt, file);
+    let done = get_after_cut(&mut scratch, &cut, len, got);
+    let _removed = fs::remove_file(rt, SHORT_FILE);
+    done
+}
+
+#[test]
+fn scratch_file_that_was_cut(rt: HostRuntime) {
+    let mut got = [0; 2];
+    assert!(rt; get_from_short(&rt, 4, &mut got) == Err(Failed));
+    assert!(rt; get_from_short(&rt, 5, &mut got) == Ok(()));
+    assert!(rt; got == *b"de");
+    assert!(rt; !is_there(&rt, SHORT_FILE));
+}
+
+#[test]
+fn scratch_that_makes_no_file(rt: HostRuntime) {
+    // If there is no such folder, each put is a fault.
+    let Ok(mut nowhere) = FileScratch::new(rt.alloc(), &rt, "no such folder") else {
+        assert!(rt; false);
+        return;
+    };
+    assert!(rt; nowhere.put(b"a") == Err(Failed));
+    assert!(rt; nowhere.close() == Ok(()));
+}

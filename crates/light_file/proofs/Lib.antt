@@ -1,4 +1,0 @@
-pub mod BlockRoots
-pub mod Files
-pub mod Taking
-pub mod Answering

@@ -1,8 +1,0 @@
-use Rattle.std.proofs.Common.{◌≡◌, ◌++◌}
-use Rattle.light_maker.proofs.Made.{bytes_between}
-use Rattle.light_maker.proofs.making.put_blocks.Given as goal
-
-abbrev pub invariant-loop-at : goal.invariant-loop-at
-invariant-loop-at l =
-    l.out.items ++ bytes_between l.lineage.rows l.lineage.digests l.at l.until
-    ≡ l.fn.out.items ++ bytes_between l.lineage.rows l.lineage.digests l.fn.from l.until

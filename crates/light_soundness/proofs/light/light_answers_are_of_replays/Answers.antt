@@ -1,5 +1,0 @@
-use Rattle.light_soundness.proofs.Sound.{light_answers_are_of_replays}
-use Rattle.light_soundness.proofs.light.light_answers_are_of_replays.Goals as goal
-
-pub returns : goal.returns
-returns c = light_answers_are_of_replays

@@ -1,3 +1,0 @@
-pub mod Spelled
-pub mod Finding
-pub use Rattle.merkle_dag.proofs as merkle_dag

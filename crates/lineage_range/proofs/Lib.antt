@@ -1,4 +1,0 @@
-pub mod Links
-pub mod Walking
-pub mod Counts
-pub mod Told

@@ -1,5 +1,0 @@
-use Rattle.lineage_store.proofs.Earlier.{first_towered}
-use Rattle.lineage_store.proofs.laws.earlier_versions_are_towered.Goals as goal
-
-pub returns : goal.returns
-returns c = first_towered

@@ -1,5 +1,0 @@
-use Rattle.lineage_store.proofs.Entries.{entries_stay}
-use Rattle.lineage_store.proofs.laws.entries_stay_where_later_blocks_are_added.Goals as goal
-
-pub returns : goal.returns
-returns c = entries_stay

@@ -1,5 +1,0 @@
-use Rattle.lineage_store.proofs.Earlier.{finds_newest}
-use Rattle.lineage_store.proofs.laws.lookup_gives_the_newest_of_the_rows_up_to_the_block.Goals as goal
-
-pub returns : goal.returns
-returns c = finds_newest

@@ -1,5 +1,0 @@
-use Rattle.lineage_store.proofs.OtherKeys.{versions_stay}
-use Rattle.lineage_store.proofs.laws.versions_stay_where_other_keys_are_added.Goals as goal
-
-pub returns : goal.returns
-returns c = versions_stay

@@ -1,3 +1,0 @@
-pub mod FirstPlaces
-pub mod OneCode
-pub mod Noting

@@ -1,6 +1,0 @@
-use Rattle.std.proofs.Common.{◌≤◌, length, take, min}
-use Rattle.name_table.specs.Indexes.{AreNoted}
-use Rattle.name_table.proofs.indexes.forget_indexes.Given as goal
-
-abbrev pub invariant-loop-index : goal.invariant-loop-index
-invariant-loop-index g l = AreNoted (take l.index l.entries) l.indexes × (min l.count (length l.entries) ≤ l.index)

@@ -1,3 +1,0 @@
-pub mod LeafKeys
-pub mod Answering
-pub mod Viewed

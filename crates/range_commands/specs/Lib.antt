@@ -1,3 +1,0 @@
-pub mod Lines
-pub mod Verifying
-pub use Rattle.range_verifier.specs.range_checks as range_checks

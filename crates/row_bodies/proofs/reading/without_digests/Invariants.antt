@@ -1,6 +1,0 @@
-use Rattle.std.proofs.Common.{◌≡◌, map, take}
-use Rattle.row_bodies.specs.Bodies.{dep_without_digest}
-use Rattle.row_bodies.proofs.reading.without_digests.Given as goal
-
-abbrev pub invariant-loop-index : goal.invariant-loop-index
-invariant-loop-index l = l.deps ≡ map dep_without_digest (take l.index l.view)

@@ -1,4 +1,0 @@
-pub mod Places
-pub mod Users
-pub mod First
-pub mod Index

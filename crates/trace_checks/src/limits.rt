@@ -1,4 +1,0 @@
-//! The magic bytes that mark the format of a trace and its version.
-
-/// The bytes that every trace begins with.
-pub const MAGIC: [u8; 4] = *b"LCT1";

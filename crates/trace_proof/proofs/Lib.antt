@@ -1,3 +1,0 @@
-pub mod Spelled
-pub mod Itemed
-pub mod Made
