@@ -11,10 +11,9 @@ use Rattle.std.proofs.lemmas.Option.{get_or_from_slice_get}
 use Rattle.lc_base.specs.declared.row.Row.{Row}
 use Rattle.entry_views.specs.prov_entry.declared.entry.Leaf.{Leaf}
 use Rattle.plain_rows.specs.root_laws.Root.{is_among, keys_of, sentinel}
-use Rattle.plain_rows.proofs.root_laws.Lists.{all_weaker, all_map, all_filter_map, not_both}
+use Rattle.plain_rows.proofs.root_laws.Lists.{all_weaker, all_filter_map, not_both}
 use Rattle.plain_rows.proofs.root_laws.Lists.{option_cases}
 use Rattle.plain_rows.proofs.root_laws.Keys.{all_among}
-use Rattle.state_tree.specs.declared.states.LeafState.{LeafState}
 use Rattle.state_tree.specs.Leaves.{index_of, with_state, with_states}
 use Rattle.forward_links.specs.declared.kept_list.KeptList.{KeptList}
 use Rattle.skip_list.specs.entry_store.Entries.{Entry as StoreEntry}
@@ -134,22 +133,12 @@ touched_within rows entry tree lists newest entries touched indexes a same =
     let there = subst (λ (leaves : List Leaf). HaveSameItems (leaf_indexes leaves touched) indexes) a.heads.leaves_are same in
     all_alike (IsLeafIndex (keys_of rows)) (leaf_indexes (leaves_with (keys_of rows) (entry_after entry (entry_of rows) [])) touched) indexes there (indexes_within (keys_of rows) (entry_after entry (entry_of rows) []) touched)
 
--- The states are for leaves of the tree, and none is for the sentinel.
-pub states_within : (rows : List Row) (entry : List ℕ → Entry) (tree : List Leaf)
-    (lists : List KeptList) (newest : List ℕ) (entries : List StoreEntry) (indexes : List ℕ)
-    (states : List LeafState)
-    → AreRenewing rows entry [] tree lists newest entries → All (IsLeafIndex (keys_of rows)) indexes → states ≡ map (state_of rows) indexes
-    → All (λ (state : LeafState). 0 < state.index) states × All (λ (state : LeafState). state.index < length tree) states
-states_within rows entry tree lists newest entries indexes states a within is =
-    let many = as_many tree lists newest (renewed_states rows entry []) a.heads in
-    let each = recursion_from_All (IsLeafIndex (keys_of rows)) indexes within in (
-      subst (All (λ (state : LeafState). 0 < state.index)) (sym is) (All-from_recursion (λ (state : LeafState). 0 < state.index) (map (state_of rows) indexes)
-          (all_map (λ (state : LeafState). 0 < state.index) (state_of rows) indexes
-          (all_weaker (IsLeafIndex (keys_of rows)) (λ (index : ℕ). 0 < index) (λ index h. h.0) indexes each))),
-      subst (All (λ (state : LeafState). state.index < length tree)) (sym is) (All-from_recursion (λ (state : LeafState). state.index < length tree) (map (state_of rows) indexes)
-          (all_map (λ (state : LeafState). state.index < length tree) (state_of rows) indexes
-          (all_weaker (IsLeafIndex (keys_of rows)) (λ (index : ℕ). index < length tree) (λ index h. omega (arith, h.1, many.1, many.2)) indexes each))),
-    )
+-- The tree has a leaf for each key, after the sentinel.
+pub keys_within : (rows : List Row) (entry : List ℕ → Entry) (tree : List Leaf)
+    (lists : List KeptList) (newest : List ℕ) (entries : List StoreEntry)
+    → AreRenewing rows entry [] tree lists newest entries → length (keys_of rows) < length tree
+keys_within rows entry tree lists newest entries a =
+    let many = as_many tree lists newest (renewed_states rows entry []) a.heads in omega (arith, many.1, many.2)
 
 -- Once their states in a history are set, the leaves of the touched keys are those of the history.
 pub leaves_renewed : (rows : List Row) (entry : List ℕ → Entry) (tree after : List Leaf)

@@ -32,3 +32,4 @@ pub mod Keeping
 pub mod NewestRows
 pub use Rattle.plain_rows.proofs as plain_rows
 pub use Rattle.plain_rows.proofs.root_laws as root_laws
+pub use Rattle.state_tree.proofs as state_tree

@@ -43,6 +43,6 @@ pub(crate) fn advance(
     let bodies = spell_rows(alloc, tree, lists, &mut touched, first, new)?;
     add_entries(alloc, tree, lists, newest, store, new, bodies.as_slice())?;
     settle_rows(tree, lists, newest, closed, first, new)?;
-    renew_leaves(alloc, tree, lists, newest, store, touched, new)?;
+    renew_leaves(tree, lists, newest, store, touched, new)?;
     Ok(bodies)
 }

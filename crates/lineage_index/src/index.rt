@@ -120,6 +120,15 @@ impl LineageIndex {
         Ok(bodies)
     }
 
+    /// Hashes the leaves that blocks touched since the last call. The index is over the same rows
+    /// after it, also on `Memory`.
+    pub fn settle(&mut self) -> Result<(), Memory>
+        ensures index { (rows : List Row) (n : ℕ) → IsIndexOf rows n self.old → IsIndexOf rows n self.new }
+        ensures store { self.new.store ≡ self.old.store }
+    {
+        self.tree.settle()
+    }
+
     /// The leaves of the keys, after the sentinel.
     pub fn tree(&self) -> &Tree
         ensures { (rows : List Row) (n : ℕ) → IsIndexOf rows n self.now → result.now ≡ leaves rows }

@@ -1,5 +1,5 @@
-//! The indexes of the leaves of the keys that a block touches: sorted, and each once, so that the
-//! leaves can be set together.
+//! The indexes of the leaves of the keys that a block touches: sorted, and each once, so that each
+//! leaf is set once.
 
 ghost use Rattle.std.specs.{
   Prelude.{◌≡◌, ◌++◌, ◌∷◌, [], OnOk, IfOk},

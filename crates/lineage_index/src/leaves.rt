@@ -1,12 +1,13 @@
-//! The leaves of the keys that a block touches are set together, each by what is kept of the newest
-//! version of its key.
+//! The leaves of the keys that a block touches are set, each by what is kept of the newest version
+//! of its key.
 
 ghost use Rattle.std.specs.{
-  Prelude.{◌≡◌, ◌<◌, [], ℕ, List, length, map, slice_get, Some, OnOk, IfOk},
+  Prelude.{◌≡◌, ◌<◌, [], ℕ, List, length, map, slice_get, Some, OnOk},
   List.{All},
 };
 ghost use Rattle.lc_base.specs.declared.row.Row.{Row};
 ghost use Rattle.plain_rows.specs.root_laws.Root.{keys_of};
+ghost use Rattle.state_tree.specs.Leaves.{with_states};
 ghost use Rattle.lineage_index.specs.{
   Growth.{Entry, deps_touched, keys_touched},
   Leaves.{AreBesideLeaves, IsLeafIndex, leaf_indexes, state_of},
@@ -18,7 +19,6 @@ use forward_links::OpenLists;
 use lc_base::{Memory, Row};
 use skip_list::{EntryId, Store};
 use state_tree::{LeafState, Tree};
-use std::alloc::Global;
 
 /// The index of the newest row of the key at an index.
 pub(crate) fn newest_at(newest: &[u32], index: u32) -> u32
@@ -47,29 +47,22 @@ pub fn leaf_state(lists: &OpenLists, newest: &[u32], store: &Store, index: u32) 
     }
 }
 
-/// The states of the leaves at these indexes, by what is kept of the newest versions of their keys.
-fn leaf_states(
-    alloc: Global,
-    lists: &OpenLists,
-    newest: &[u32],
-    store: &Store,
-    indexes: &[u32],
-) -> Result<Vec<LeafState>, Memory>
-    requires { (rows : List Row) × AreBesideLeaves rows lists.now newest.now store.now × All (IsLeafIndex (keys_of rows)) indexes.now }
-    ensures { (rows : List Row) → AreBesideLeaves rows lists.now newest.now store.now → All (IsLeafIndex (keys_of rows)) indexes.now
-        → IfOk result (λ states. states.items ≡ map (state_of rows) indexes.now) }
+/// Sets the leaves at these indexes, each by what is kept of the newest version of its key.
+fn set_leaves(tree: &mut Tree, lists: &OpenLists, newest: &[u32], store: &Store, indexes: &[u32])
+    requires { (rows : List Row) × AreBesideLeaves rows lists.now newest.now store.now
+        × All (IsLeafIndex (keys_of rows)) indexes.now × (length (keys_of rows) < length tree.old) }
+    ensures { (rows : List Row) → AreBesideLeaves rows lists.now newest.now store.now
+        → All (IsLeafIndex (keys_of rows)) indexes.now
+        → tree.new ≡ with_states tree.old (map (state_of rows) indexes.now) }
 {
-    let mut states = Vec::new(alloc);
     for index in indexes {
-        states.push(leaf_state(lists, newest, store, *index))?;
+        tree.set_leaf(&leaf_state(lists, newest, store, *index));
     }
-    Ok(states)
 }
 
-/// Sets the leaves of all keys that the rows of a block touch, together: of their own keys, and of
-/// those that they depend on. `touched` has the indexes of the leaves of the latter.
+/// Sets the leaves of all keys that the rows of a block touch: of their own keys, and of those that
+/// they depend on. `touched` has the indexes of the leaves of the latter. Nothing is hashed.
 pub(crate) fn renew_leaves(
-    alloc: Global,
     tree: &mut Tree,
     lists: &OpenLists,
     newest: &[u32],
@@ -83,7 +76,6 @@ pub(crate) fn renew_leaves(
         → OnOk result (AreRenewing rows entry (keys_touched new.now) tree.new lists.now newest.now store.now) }
 {
     let indexes = touched_indexes(tree, touched, new)?;
-    let states = leaf_states(alloc, lists, newest, store, &indexes)?;
-    tree.set_leaves(&states)?;
+    set_leaves(tree, lists, newest, store, &indexes);
     Ok(())
 }

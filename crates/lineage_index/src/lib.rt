@@ -19,7 +19,7 @@ mod spelling;
 
 pub use counter::{LookupCounter, Steps};
 pub use entry_views::{Header, root_digest};
-pub use forward_links::OpenLists;
+pub use forward_links::{OpenList, OpenLists};
 pub use growing::{NewVersion, push_version};
 pub use headers::entry_header;
 pub use heads::set_newest;
@@ -36,4 +36,4 @@ pub use row_laws::{
     path_is_over_the_versions, rows_are_read_back, versions_stay_where_other_keys_are_added,
 };
 pub use skip_list::{EntryId, EntryList, Facts, Store};
-pub use state_tree::{LeafState, Tree};
+pub use state_tree::{LeafList, LeafState, Tree, tree_hash};

@@ -21,7 +21,7 @@ use Rattle.lineage_index.proofs.KeyLeaves.{leaves_on}
 use Rattle.lineage_index.proofs.LeafStates.{leaves_told}
 
 -- The indexes from 1 to the number of keys are those of leaves of keys.
-pub all_within : (keys : List (List ℕ)) → All (IsLeafIndex keys) (range_with_len 1 (length keys))
+all_within : (keys : List (List ℕ)) → All (IsLeafIndex keys) (range_with_len 1 (length keys))
 all_within keys k d l =
     let is : get_or (range_with_len 1 (length keys)) k d ≡ 1 + k = get_or-range_with_len 1
     (length keys) k d (omega (arith, l, length-range_with_len 1 (length keys))) in

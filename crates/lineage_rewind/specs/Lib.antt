@@ -1,4 +1,5 @@
 pub mod Front
+pub mod LeavesAt
 pub use Rattle.lineage_index.specs.entry_store as entry_store
 pub use Rattle.lineage_index.specs as lineage_index
 pub use Rattle.lineage_index.specs.plain_rows as plain_rows

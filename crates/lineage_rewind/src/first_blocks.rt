@@ -37,7 +37,7 @@ fn index_of_entries(
         &mut newest,
         &mut closed,
     )?;
-    renew_all(alloc, &mut tree, &lists, &newest, &store)?;
+    renew_all(&mut tree, &lists, &newest, &store);
     Ok(LineageIndex::of_parts(tree, lists, newest, store, closed))
 }
 

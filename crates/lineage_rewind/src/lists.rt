@@ -16,7 +16,7 @@ use lineage_index::{EntryId, LineageIndex, OpenLists, Store};
 use std::alloc::Global;
 
 /// The version that the row at an index is, by the row's entry.
-fn version_of(store: &Store, index: u32) -> Dep
+pub(crate) fn version_of(store: &Store, index: u32) -> Dep
     requires { (rows : List Row) × (dep : Dep) × IsStoreOf rows store.now
         × (version_at rows index ≡ Some dep) }
     ensures { (rows : List Row) (dep : Dep) → IsStoreOf rows store.now

@@ -18,10 +18,9 @@ use Rattle.root_laws.specs.merkle_tree.declared.limits.TheConstants.{MAX_LEAVES}
 use Rattle.state_tree.specs.declared.states.LeafState.{LeafState}
 use Rattle.state_tree.specs.declared.threaded.LeafEntry.{LeafEntry}
 use Rattle.state_tree.specs.Leaves.{is_this, index_of, fresh_leaf, leaf_with_state, with_state, with_leaf_after}
-use Rattle.state_tree.specs.Entries.{KeyEntry, key_at, next_at, fresh_entry, entry_with_state, state_of_entry, first_leaf, leaf_of_entry, leaves_of, AreThreaded}
+use Rattle.state_tree.specs.Entries.{KeyEntry, key_at, next_at, fresh_entry, entry_with_state, first_leaf, leaf_of_entry, leaves_of, AreThreaded}
 use Rattle.state_tree.proofs.Positions.{position_is}
 use Rattle.state_tree.proofs.Threads.{map_map}
-use Rattle.state_tree.proofs.Together.{said_again}
 
 -- ---- what is at an index
 
@@ -270,24 +269,6 @@ state_threaded first entries state value new threaded past held new_is =
       next_within first entries state.index threaded
           (omega (arith, below, past)),
     ))
-
--- What it said before is set again.
-pub state_back : (first : ℕ) (entries : List KeyEntry) (state before : LeafState)
-    (value : LeafEntry) (leaves : List Leaf)
-    → 0 < state.index
-    → slice_get (values_of entries) (state.index - 1) ≡ Some value
-    → before ≡ state_of_entry value state.index
-    → leaves ≡ with_state (leaves_of first entries) state
-    → with_state leaves before ≡ leaves_of first entries
-state_back first entries state before value leaves past held before_is leaves_are =
-    let (entry, at, is) = value_at entries (state.index - 1) value held in
-    let leaf = leaf_of_entry (keys_of entries) entry in
-    let found = leaf_past first entries state.index entry past at in
-    let there : leaf ≡ get_or (leaves_of first entries) state.index (sentinel []) = sym (get_or_from_slice_get (leaves_of first entries) state.index leaf (sentinel []) found) in
-    ap₂ with_state leaves_are (before_is
-    ∙ ap (λ (one : LeafEntry). state_of_entry one state.index) (sym is))
-    ∙ said_again (leaves_of first entries) state leaf
-    (slice_get_within (leaves_of first entries) state.index leaf found) there
 
 -- Another leaf is made the next one.
 pub next_set : (first : ℕ) (entries : List KeyEntry) (i : ℕ) (value : LeafEntry) (next : ℕ)

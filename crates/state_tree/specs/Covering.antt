@@ -10,4 +10,5 @@ pub record Covers (leaves : List Leaf) (key : List ℕ) (index : ℕ) : Type 0 w
   pub leaf : Leaf
   pub held : slice_get leaves index ≡ Some leaf
   pub not_above : is_below key (leaf_key leaf) ≡ false
-  pub greatest : (other : Leaf) → Contains leaves other → is_below (leaf_key leaf) (leaf_key other) ≡ true → is_below key (leaf_key other) ≡ true
+  pub greatest : (other : Leaf) → Contains leaves other
+      → is_below (leaf_key leaf) (leaf_key other) ≡ true → is_below key (leaf_key other) ≡ true

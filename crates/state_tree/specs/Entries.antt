@@ -1,5 +1,6 @@
 -- The leaves as they are kept: what is kept of each key, in the order in which keys were added.
-use Rattle.std.specs.Prelude.{◌==◌, ◌≤◌, ◌<◌, ◌-◌, ℕ, if◌then◌else◌, List, [], ◌∷◌, length, map, replicate, slice_get, slice_index_or, Option, Some, None}
+use Rattle.std.specs.Prelude.{◌==◌, ◌≤◌, ◌<◌, ◌-◌, ℕ, if◌then◌else◌, List, [], ◌∷◌, length, map}
+use Rattle.std.specs.Prelude.{replicate, slice_get, slice_index_or, Option, Some, None}
 use Rattle.std.specs.List.{All}
 use Rattle.std.specs.Map.{keys_of}
 use Rattle.root_laws.specs.merkle_tree.declared.limits.TheConstants.{MAX_LEAVES}
@@ -59,16 +60,6 @@ entry_with_state entry state = record entry {
   newest = state.newest;
   open_count = state.open_count;
   open_digest = state.open_digest;
-}
-
--- What the leaf of an entry says of the versions of its key, with the index of the leaf.
-abbrev pub state_of_entry : LeafEntry → ℕ → LeafState
-state_of_entry entry index = record {
-  index = index;
-  newest_block = entry.newest_block;
-  newest = entry.newest;
-  open_count = entry.open_count;
-  open_digest = entry.open_digest;
 }
 
 -- Each index that is kept for a next leaf is that of a leaf, or 0.

@@ -1,5 +1,6 @@
 -- Leaves that are threaded: each names the next greater key.
-use Rattle.std.specs.Prelude.{◌≡◌, ◌==◌, ◌<◌, ℕ, Bool, false, List, [], ◌∷◌, ◌++◌, length, map, replicate, position, slice_index_or, slice_set, Option, Some, None}
+use Rattle.std.specs.Prelude.{◌≡◌, ◌==◌, ◌<◌, ℕ, Bool, false, List, [], ◌∷◌, ◌++◌, length, map}
+use Rattle.std.specs.Prelude.{replicate, position, slice_index_or, slice_set, Option, Some, None}
 use Rattle.std.specs.List.{fold}
 use Rattle.std.specs.Cmp.Lexicographic.{pointwise}
 use Rattle.lc_base.specs.declared.digest.Digest.{Digest}
@@ -75,10 +76,6 @@ state_of_leaf leaf index = record {
   open_count = leaf.open_count;
   open_digest = leaf.open_digest;
 }
-
--- The indexes of the leaves that these states are for.
-abbrev pub indexes_of : List LeafState → List ℕ
-indexes_of states = map (λ (state : LeafState). state.index) states
 
 -- Leaves, of which the one at the index of the state has this state.
 abbrev pub with_state : List Leaf → LeafState → List Leaf

@@ -1,5 +1,6 @@
 -- What the tree keeps beside its leaves.
-use Rattle.std.specs.Prelude.{◌≡◌, ◌<◌, ◌≤◌, false, ℕ, List, [], length, Option, Some, None, IsSome, slice_get, slice_index_or}
+use Rattle.std.specs.Prelude.{◌≡◌, ◌<◌, ◌≤◌, false, ℕ, List, [], length, Option, Some, None, IsSome}
+use Rattle.std.specs.Prelude.{slice_get, slice_index_or}
 use Rattle.std.specs.List.{All, Contains}
 use Rattle.std.specs.Ordering.{nat_cmp}
 use Rattle.std.specs.Cmp.Lexicographic.{slice_cmp}
@@ -11,6 +12,7 @@ use Rattle.root_laws.specs.prov_entry.declared.entry.Leaf.{Leaf}
 use Rattle.root_laws.specs.Root.{is_below}
 use Rattle.state_tree.specs.Leaves.{index_of, thread_leaves, leaf_keys, leaf_hashes, AreApart}
 use Rattle.root_laws.specs.merkle_tree.declared.limits.TheConstants.{MAX_LEAVES}
+use Rattle.state_tree.specs.Stale.{Indexes}
 
 -- The index that is kept for a key.
 abbrev pub kept_for : BTreeMap (List ℕ) ℕ → List ℕ → Option ℕ
@@ -25,7 +27,8 @@ pub record IsLastUpTo (order : BTreeMap (List ℕ) ℕ) (key : List ℕ) (index 
   pub last : List ℕ
   pub kept : kept_for order last ≡ Some index
   pub not_above : is_below key last ≡ false
-  pub greatest : (other : List ℕ) → is_below key other ≡ false → IsSome (kept_for order other) → is_below last other ≡ false
+  pub greatest : (other : List ℕ) → is_below key other ≡ false → IsSome (kept_for order other)
+      → is_below last other ≡ false
 
 -- The leaves begin with the sentinel, are threaded, and have no key twice; the indexes that are kept
 -- are theirs.
@@ -51,10 +54,12 @@ hash_at leaves index = record { index = index; hash = slice_index_or (leaf_hashe
 pub record AreHashedBut (leaves : List Leaf) (hashes : List Digest) (stale : List ℕ) : Type 0 where
   pub fewer : length hashes ≤ length leaves
   pub within : All (λ (index : ℕ). index < length leaves) stale
-  pub others : (index : ℕ) → index < length leaves → (Contains stale index → ⊥) → (index < length hashes) × (slice_index_or hashes index no_hash ≡ slice_index_or (leaf_hashes leaves) index no_hash)
+  pub others : (index : ℕ) → index < length leaves → (Contains stale index → ⊥)
+      → (index < length hashes) × (slice_index_or hashes index no_hash ≡ slice_index_or (leaf_hashes leaves) index no_hash)
 
 -- The leaves, with the order of their keys, and the hashes of the leaves, but for some that are
--- stale.
-pub record IsTree (leaves : List Leaf) (order : BTreeMap (List ℕ) ℕ) (hashes : List Digest) (stale : List ℕ) : Type 0 where
+-- stale. There is room for the indexes of all leaves.
+pub record IsTree (leaves : List Leaf) (order : BTreeMap (List ℕ) ℕ) (hashes : List Digest) (stale : Indexes) : Type 0 where
   pub in_order : AreInOrder leaves order
-  pub hashed : AreHashedBut leaves hashes stale
+  pub hashed : AreHashedBut leaves hashes stale.list
+  pub room : length leaves ≤ stale.count

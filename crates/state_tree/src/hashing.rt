@@ -1,11 +1,10 @@
 //! The hashes of leaves: only those that are stale are made again.
 
-ghost use Rattle.std.specs.{Prelude.{◌≡◌, ◌<◌, ◌≤◌, ℕ, length, map, OnOk, OnErr, IfOk}, List.{All}};
+ghost use Rattle.std.specs.{Prelude.{◌≡◌, ◌<◌, ℕ, length, map, OnOk, OnErr, IfOk, IsPermutation}, List.{All}};
 ghost use Rattle.root_laws.specs.{
   prov_entry.Spelling.{leaf_bytes, IsKeyIfAny},
   merkle_tree.Tree.{leaf_text},
   merkle_tree.Levels.{digest_of},
-  merkle_tree.declared.limits.TheConstants.{MAX_LEAVES},
 };
 ghost use Rattle.state_tree.specs.{Leaves.{leaf_hashes}, Order.{AreHashedBut, hash_at}};
 
@@ -43,19 +42,29 @@ fn hashes_at(alloc: Global, leaves: &ThreadedLeaves, indexes: &[u32]) -> Result<
     Ok(hashes)
 }
 
-/// Hashes the leaves at these indexes, which are all whose hashes are stale. If the indexes ascend,
-/// each node over them is hashed once. Out of memory, the hashes stay as they were.
-pub(crate) fn hash_leaves(
+/// Some indexes in ascending order.
+fn ascending(alloc: Global, indexes: &[u32]) -> Result<Vec<u32>, Memory>
+    ensures { IfOk result (λ sorted. IsPermutation indexes.now sorted.items) }
+{
+    let mut sorted = Vec::new(alloc);
+    sorted.extend_from_slice(indexes)?;
+    sorted.sort_unstable();
+    Ok(sorted)
+}
+
+/// Hashes the leaves at these indexes, which are all whose hashes are stale, and each node over them
+/// once. Out of memory, the hashes stay as they were.
+pub(crate) fn hash_stale(
     alloc: Global,
     leaves: &ThreadedLeaves,
     levels: &mut Levels,
-    indexes: &[u32],
+    stale: &[u32],
 ) -> Result<(), Memory>
-    requires few { length leaves.now ≤ MAX_LEAVES }
-    requires hashed { AreHashedBut leaves.now levels.old indexes.now }
+    requires { AreHashedBut leaves.now levels.old stale.now }
     ensures ok { OnOk result (levels.new ≡ leaf_hashes leaves.now) }
     ensures err { OnErr result (levels.new ≡ levels.old) }
 {
-    let hashes = hashes_at(alloc, leaves, indexes)?;
+    let indexes = ascending(alloc, stale)?;
+    let hashes = hashes_at(alloc, leaves, indexes.as_slice())?;
     levels.renew(leaves.count(), hashes)
 }

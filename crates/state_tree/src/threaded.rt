@@ -31,7 +31,7 @@ ghost use Rattle.root_laws.specs.{
 ghost use Rattle.state_tree.specs.{
   declared.states.LeafState.{LeafState},
   Leaves.{index_of, with_leaf_after, with_state},
-  Entries.{key_at, fresh_entry, entry_with_state, state_of_entry, next_at, leaf_of_entry, leaves_of, AreThreaded},
+  Entries.{key_at, fresh_entry, entry_with_state, next_at, leaf_of_entry, leaves_of, AreThreaded},
 };
 
 use crate::states::LeafState;
@@ -197,19 +197,6 @@ fn entry_with_state(entry: &LeafEntry, state: &LeafState) -> LeafEntry
     }
 }
 
-/// What the leaf of an entry, at this index, says of the versions of its key.
-fn state_of_entry(entry: &LeafEntry, index: u32) -> LeafState
-    ensures { result ≡ state_of_entry entry.now index }
-{
-    LeafState {
-        index,
-        newest_block: entry.newest_block,
-        newest: entry.newest,
-        open_count: entry.open_count,
-        open_digest: entry.open_digest,
-    }
-}
-
 impl ThreadedLeaves {
     /// The sentinel alone. It takes no memory.
     pub(crate) fn new(resources: Resources) -> ThreadedLeaves
@@ -273,17 +260,13 @@ impl ThreadedLeaves {
         Ok(())
     }
 
-    /// Sets what a leaf says of the versions of its key, and returns what it said before.
-    pub(crate) fn set_state(&mut self, state: &LeafState) -> LeafState
+    /// Sets what a leaf says of the versions of its key.
+    pub(crate) fn set_state(&mut self, state: &LeafState)
         requires own { 0 < state.now.index }
         requires below { state.now.index < length self.old }
-        ensures set { self.new ≡ with_state self.old state.now }
-        ensures index { result.index ≡ state.now.index }
-        ensures before { with_state self.new result ≡ self.old }
+        ensures { self.new ≡ with_state self.old state.now }
     {
         let place = state.index as usize - 1;
-        let before = self.entries[place];
-        self.entries[place] = entry_with_state(&before, state);
-        state_of_entry(&before, state.index)
+        self.entries[place] = entry_with_state(&self.entries[place], state);
     }
 }

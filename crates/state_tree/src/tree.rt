@@ -3,7 +3,6 @@
 
 ghost use Rattle.std.specs.{
   Prelude.{◌≡◌, ◌<◌, ◌+◌, ℕ, List, [], ◌∷◌, length, slice_get, Some, None, OnOk, OnErr, IfOk},
-  List.{All},
 };
 ghost use Rattle.root_laws.specs.{
   merkle_tree.Tree.{audit_path},
@@ -14,14 +13,14 @@ ghost use Rattle.root_laws.specs.{
 };
 ghost use Rattle.state_tree.specs.{
   declared.states.LeafState.{LeafState},
-  Leaves.{index_of, with_leaf_of, with_states, thread_leaves, leaf_keys, leaf_texts, AreApart},
+  Leaves.{index_of, with_leaf_of, with_state, thread_leaves, leaf_keys, leaf_texts, AreApart},
   Covering.{Covers},
 };
 
 use crate::growth::add_leaf;
-use crate::hashing::hash_of;
+use crate::hashing::{hash_of, hash_stale};
 use crate::order::last_up_to;
-use crate::setting::{indexes_with, renew};
+use crate::stale::StaleLeaves;
 use crate::states::LeafState;
 use crate::threaded::ThreadedLeaves;
 use crate::whole::{whole_audit, whole_hash};
@@ -31,15 +30,15 @@ use std::collections::BTreeMap;
 use std::marker::Model;
 
 /// The leaves: first the sentinel, then one for each key in the order in which keys were added.
-/// Each names the next greater key. Hashes are made when leaves are set; until then those of new
-/// leaves, and of the leaves that name them, are stale.
+/// Each names the next greater key. Hashes are made when the tree is settled; until then those of
+/// leaves that were added or set, and of leaves that name a new one, are stale.
 #[derive(Drop)]
 pub struct Tree {
     leaves: ThreadedLeaves,
     /// The index of the leaf of each key. Only what covers a key is looked for in it.
     order: BTreeMap<Key, u32>,
     levels: Levels,
-    stale: Vec<u32>,
+    stale: StaleLeaves,
 }
 
 // Contracts see the leaves.
@@ -52,7 +51,7 @@ impl Model for Tree {
 
     ghost view = { λ tree. tree.leaves };
 
-    ghost invariant = { λ tree. IsTree tree.leaves tree.order tree.levels tree.stale.items };
+    ghost invariant = { λ tree. IsTree tree.leaves tree.order tree.levels tree.stale };
 }
 
 impl Tree {
@@ -63,11 +62,13 @@ impl Tree {
         let leaves = ThreadedLeaves::new(resources);
         let mut levels = Levels::new(resources.alloc)?;
         levels.push(hash_of(&leaves.leaf(0)))?;
+        let mut stale = StaleLeaves::new(resources.alloc);
+        stale.make_room(leaves.count())?;
         Ok(Tree {
             leaves,
             order: BTreeMap::new(resources.alloc),
             levels,
-            stale: Vec::new(resources.alloc),
+            stale,
         })
     }
 
@@ -111,8 +112,9 @@ impl Tree {
     }
 
     /// Adds a leaf for a key that has none, at the end, and returns its index. Its key is threaded
-    /// between those of the others; it has no version yet. Nothing is hashed: that is done when
-    /// leaves are set. Out of memory, the tree stays as it was.
+    /// between those of the others; it has no version yet. Nothing is hashed: the hash of
+    /// the leaf, and that of the leaf that names its key, are stale then. Out of memory, the tree stays
+    /// as it was.
     pub fn add_key(&mut self, key: Key) -> Result<u32, Memory>
         requires new { index_of self.old key ≡ None }
         requires room { length self.old < MAX_LEAVES }
@@ -132,29 +134,36 @@ impl Tree {
         Ok(index)
     }
 
-    /// Sets the states of some leaves, one after another. These leaves and those that are stale are
-    /// hashed then, and each node over them once. Out of memory, the tree stays as it was.
-    pub fn set_leaves(&mut self, states: &[LeafState]) -> Result<(), Memory>
-        requires own { All (λ (state : LeafState). 0 < state.index) states.now }
-        requires below { All (λ (state : LeafState). state.index < length self.old) states.now }
-        ensures ok { OnOk result (self.new ≡ with_states self.old states.now) }
-        ensures err { OnErr result (self.new ≡ self.old) }
+    /// Sets the state of a leaf. Nothing is hashed: its hash is stale then. It takes no memory.
+    pub fn set_leaf(&mut self, state: &LeafState)
+        requires own { 0 < state.now.index }
+        requires below { state.now.index < length self.old }
+        ensures set { self.new ≡ with_state self.old state.now }
     {
-        let alloc = *self.stale.allocator();
-        let indexes = indexes_with(alloc, self.stale.as_slice(), states)?;
-        renew(
-            alloc,
-            &mut self.leaves,
+        self.leaves.set_state(state);
+        self.stale.mark(state.index);
+    }
+
+    /// Hashes the leaves whose hashes are stale, and each node over them once. If none is stale, it
+    /// takes no memory.
+    pub fn settle(&mut self) -> Result<(), Memory>
+        ensures { self.new ≡ self.old }
+    {
+        if self.stale.is_empty() {
+            return Ok(());
+        }
+        hash_stale(
+            self.stale.allocator(),
+            &self.leaves,
             &mut self.levels,
-            states,
-            indexes.as_slice(),
+            self.stale.as_slice(),
         )?;
         self.stale.clear();
         Ok(())
     }
 
-    /// The tree hash of the leaves (RFC 6962, section 2.1). It takes no memory. If keys were added
-    /// since leaves were last set, all leaves are hashed for it.
+    /// The tree hash of the leaves (RFC 6962, section 2.1). It takes no memory. If hashes are
+    /// stale, all leaves are hashed for it.
     pub fn root_hash(&self) -> Digest
         ensures { result.0 ≡ leaves_hash self.now }
     {
@@ -165,8 +174,8 @@ impl Tree {
         }
     }
 
-    /// The audit path of a leaf (RFC 6962, section 2.1.1), from the leaf upward. If keys were added
-    /// since leaves were last set, all leaves are hashed for it.
+    /// The audit path of a leaf (RFC 6962, section 2.1.1), from the leaf upward. If hashes are
+    /// stale, all leaves are hashed for it.
     pub fn audit(&self, index: u32) -> Result<DigestList, Memory>
         requires { index < length self.now }
         ensures { IfOk result (λ path. bytes_of path ≡ audit_path index (leaf_texts self.now)) }
@@ -174,7 +183,7 @@ impl Tree {
         if self.stale.is_empty() {
             self.levels.audit(index)
         } else {
-            let alloc = *self.stale.allocator();
+            let alloc = self.stale.allocator();
             whole_audit(alloc, &self.leaves, index)
         }
     }

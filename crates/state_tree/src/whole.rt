@@ -1,15 +1,17 @@
 //! The tree hash and an audit path by the leaves alone, for a tree with hashes that are stale.
 
-ghost use Rattle.std.specs.Prelude.{◌≡◌, ◌<◌, ◌≤◌, ◌+◌, ◌-◌, ◌^◌, length, take, drop, IfOk};
+ghost use Rattle.std.specs.Prelude.{◌≡◌, ◌<◌, ◌≤◌, ◌+◌, ◌-◌, ◌^◌, List, length, take, drop, IfOk};
 ghost use Rattle.root_laws.specs.{
   merkle_tree.Tree.{hash_to, audit_path},
   merkle_tree.Climbing.{bytes_of},
   merkle_tree.declared.limits.TheConstants.{MAX_HEIGHT, MAX_LEAVES},
+  prov_entry.declared.entry.Leaf.{Leaf},
   Root.{leaves_hash},
 };
 ghost use Rattle.state_tree.specs.Leaves.{leaf_hashes, leaf_texts};
 
 use crate::hashing::hash_of;
+use crate::leaf_list::LeafList;
 use crate::threaded::ThreadedLeaves;
 use lc_base::{Digest, DigestList, Memory};
 use root_laws::{Levels, MAX_HEIGHT, empty_hash, node_hash};
@@ -41,10 +43,11 @@ pub(crate) fn whole_audit(
 }
 
 /// The hash of at most one leaf.
-fn lowest_hash(leaves: &ThreadedLeaves, start: u32, count: u32) -> Digest
+fn lowest_hash<L: LeafList>(leaves: &L, start: u32, count: u32) -> Digest
     requires few { count ≤ 1 }
-    requires within { start + count ≤ length leaves.now }
-    ensures { result.0 ≡ hash_to 0 (leaf_texts (take count (drop start leaves.now))) }
+    requires within { (list : List Leaf) × L.are leaves.now list × (start + count ≤ length list) }
+    ensures { (list : List Leaf) → L.are leaves.now list → start + count ≤ length list
+        → result.0 ≡ hash_to 0 (leaf_texts (take count (drop start list))) }
 {
     if count == 0 {
         empty_hash()
@@ -63,12 +66,13 @@ fn half_of(height: u32) -> u32
 }
 
 /// The hash of a part of the leaves: `count` of them, from the index `start` on.
-fn hash_part(height: u32, leaves: &ThreadedLeaves, start: u32, count: u32) -> Digest
+fn hash_part<L: LeafList>(height: u32, leaves: &L, start: u32, count: u32) -> Digest
     requires few { count ≤ 2 ^ height }
     requires low { height ≤ MAX_HEIGHT }
-    requires within { start + count ≤ length leaves.now }
-    requires tree { length leaves.now ≤ MAX_LEAVES }
-    ensures { result.0 ≡ hash_to height (leaf_texts (take count (drop start leaves.now))) }
+    requires within { (list : List Leaf) × L.are leaves.now list × (start + count ≤ length list)
+        × (length list ≤ MAX_LEAVES) }
+    ensures { (list : List Leaf) → L.are leaves.now list → start + count ≤ length list
+        → result.0 ≡ hash_to height (leaf_texts (take count (drop start list))) }
 {
     if height == 0 {
         return lowest_hash(leaves, start, count);
@@ -83,9 +87,18 @@ fn hash_part(height: u32, leaves: &ThreadedLeaves, start: u32, count: u32) -> Di
     }
 }
 
-/// The tree hash of the leaves (RFC 6962, section 2.1), by recursion. It takes no memory.
+/// The tree hash of leaves (RFC 6962, section 2.1), by recursion. It looks up each leaf once, and
+/// takes no memory.
+pub fn tree_hash<L: LeafList>(leaves: &L) -> Digest
+    requires { (list : List Leaf) × L.are leaves.now list }
+    ensures { (list : List Leaf) → L.are leaves.now list → result.0 ≡ leaves_hash list }
+{
+    hash_part(MAX_HEIGHT, leaves, 0, leaves.count())
+}
+
+/// The tree hash of the leaves of a tree, none of whose hashes is used.
 pub(crate) fn whole_hash(leaves: &ThreadedLeaves) -> Digest
     ensures { result.0 ≡ leaves_hash leaves.now }
 {
-    hash_part(MAX_HEIGHT, leaves, 0, leaves.count())
+    tree_hash(leaves)
 }

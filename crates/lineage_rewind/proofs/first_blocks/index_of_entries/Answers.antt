@@ -37,7 +37,7 @@ returns c all rows m n first within =
     c.new-newest.result.items c.new-closed.result.items c.in_ok-tree.ensures c.new-lists.ensures
     c.new-newest.ensures.items c.new-closed.ensures.items in
     let filled = c.in_ok-settle_entries.ensures all rows m first begun in
-    let renewed = c.in_ok-renew_all.ensures rows (entry_or_fresh [])
+    let renewed = c.renew_all.ensures rows (entry_or_fresh [])
     (renewing_begun rows c.settle_entries.new.tree c.settle_entries.new.lists
     c.settle_entries.new.newest.items c.deref.result.now c.settle_entries.new.closed.items
     c.args.store first.store filled c.deref.ensures.value) in

@@ -1,8 +1,9 @@
-use Rattle.std.proofs.Common.{◌∙◌, ◌<◌, length, List, ap, subst, sym}
+use Rattle.std.proofs.Common.{◌∙◌, ◌<◌, ◌∷◌, [], ◌++◌, length, List, Some, ap, subst, sym, arith}
+use Rattle.std.proofs.lemmas.List.{length-set, length-append}
 use Rattle.root_laws.specs.prov_entry.declared.entry.Leaf.{Leaf}
 use Rattle.root_laws.specs.merkle_tree.declared.limits.TheConstants.{MAX_LEAVES}
 use Rattle.state_tree.specs.Covering.{Covers}
-use Rattle.state_tree.specs.Leaves.{with_leaf_of}
+use Rattle.state_tree.specs.Leaves.{fresh_leaf, with_leaf_of}
 use Rattle.state_tree.proofs.Covered.{stands}
 use Rattle.state_tree.proofs.Threads.{IsNew, added, order_same}
 use Rattle.state_tree.proofs.Together.{stale_grown, stale_same}
@@ -14,7 +15,8 @@ invariant_of-self c =
     let err = c.in_err-add_leaf.ensures in
     record {
       in_order = order_same c.self.inside.leaves _ c.self.inside.order _ c.args.key c.self.invariant.in_order none err.leaves_err err.kept_err err.others;
-      hashed = stale_same c.self.inside.leaves _ c.self.inside.levels c.self.inside.stale.items _ c.self.invariant.hashed err.leaves_err err.stale_err;
+      hashed = stale_same c.self.inside.leaves _ c.self.inside.levels c.self.inside.stale.list _ c.self.invariant.hashed err.leaves_err err.stale_err;
+      room = omega (arith, c.self.invariant.room, err.room_err, ap length err.leaves_err);
     }
 
 pub invariant_of-self-2 : goal.invariant_of-self-2
@@ -27,8 +29,17 @@ invariant_of-self-2 c =
     let after = ok.leaves cover.leaf cover.held in
     record {
       in_order = (added leaves c.add_leaf.new.leaves c.self.inside.order c.add_leaf.new.order c.args.key c.covering-cover.result cover.leaf c.self.invariant.in_order cover cover.held new room ok.kept ok.others after).0;
-      hashed = stale_grown leaves c.add_leaf.new.leaves c.self.inside.levels c.self.inside.stale.items c.add_leaf.new.stale.items c.args.key c.covering-cover.result cover.leaf c.self.invariant.hashed
+      hashed = stale_grown leaves c.add_leaf.new.leaves c.self.inside.levels c.self.inside.stale.list c.add_leaf.new.stale.list c.args.key c.covering-cover.result cover.leaf c.self.invariant.hashed
           (stands leaves c.covering-cover.result cover.leaf cover.held).0 after ok.stale;
+      room = omega (
+        arith,
+        ok.room,
+        ap length after,
+        length-set (leaves ++ record (fresh_leaf c.args.key) { next = cover.leaf.next } ∷ [])
+            c.covering-cover.result
+            (record cover.leaf { next = Some c.args.key }),
+        length-append leaves (record (fresh_leaf c.args.key) { next = cover.leaf.next } ∷ []),
+      );
     }
 
 pub returns-clause-added : goal.returns-clause-added

@@ -1,10 +1,11 @@
-use Rattle.std.proofs.Common.{◌≡◌, ◌∙◌, ◌∷◌, [], ◌++◌, List, ap, sym, subst, refl}
+use Rattle.std.proofs.Common.{◌≡◌, ◌∙◌, ◌∷◌, [], ◌++◌, List, ap, sym, subst, refl, arith}
 use Rattle.std.specs.Prelude.{slice_get}
 use Rattle.lc_base.specs.declared.digest.Digest.{Digest}
 use Rattle.root_laws.specs.prov_entry.declared.entry.Leaf.{Leaf}
 use Rattle.root_laws.specs.Root.{sentinel}
 use Rattle.state_tree.specs.Leaves.{leaf_hashes}
 use Rattle.state_tree.specs.Order.{AreHashedBut}
+use Rattle.state_tree.specs.Stale.{Indexes}
 use Rattle.state_tree.proofs.Threads.{order_new}
 use Rattle.state_tree.proofs.Together.{hashes_more, none_stale}
 use Rattle.state_tree.proofs.tree.Tree.new.Goals as goal
@@ -18,6 +19,7 @@ invariant_of-result c =
     ∙ ap (λ (hashes : List Digest). hashes ++ c.hash_of.result ∷ []) c.in_ok-levels.ensures) in
     record {
       in_order = order_new leaves c.new-2.result c.new-leaves.ensures c.new-2.ensures.empty;
-      hashed = subst (AreHashedBut leaves c.push.new.self) (sym c.new-3.ensures.items)
+      hashed = subst (AreHashedBut leaves c.push.new.self) (sym (c.in_ok-make_room.ensures.same ∙ ap (λ (stale : Indexes). stale.list) c.new-stale.ensures))
           (none_stale leaves c.push.new.self (one ∙ sym all));
+      room = omega (arith, c.in_ok-make_room.ensures.room, c.count.ensures.count);
     }

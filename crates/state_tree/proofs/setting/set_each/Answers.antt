@@ -1,8 +1,0 @@
-use Rattle.std.proofs.Common.{length, take, ap, arith}
-use Rattle.state_tree.proofs.Together.{no_state, states_long}
-use Rattle.state_tree.proofs.setting.set_each.Goals as goal
-
-pub set_state-requires-clause-below : goal.set_state-requires-clause-below
-set_state-requires-clause-below c =
-    let i = c.loop-state.state-index in
-    omega (arith, c.requires.below i no_state c.loop-state-test.true, ap length c.loop-state.invariant, states_long c.args.leaves.now (take i c.args.states.now))
