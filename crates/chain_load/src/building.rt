@@ -71,8 +71,8 @@ fn with_block<S: Scratch>(
     match decode(alloc, bytes) {
         Ok(block) => {
             let digest = block_digest(bytes);
-            match chain.with_block(alloc, scratch, &block, digest) {
-                Ok((longer, _, _)) => Ok(longer),
+            match chain.with_rows(alloc, scratch, &block, digest) {
+                Ok((longer, _)) => Ok(longer),
                 Err(error) => Err(error),
             }
         }

@@ -23,6 +23,8 @@ mod long;
 #[cfg(test)]
 mod ranges;
 #[cfg(test)]
+mod roots;
+#[cfg(test)]
 mod tests;
 mod versions;
 #[cfg(test)]

@@ -1,15 +1,17 @@
 -- What is kept of the first blocks of a lineage belongs together as all of it does.
 use Rattle.std.proofs.Common.{◌≡◌, ◌∙◌, ℕ, suc, ◌+◌, ◌<◌, ◌≤◌, true, false, nat_le, List, [], ◌∷◌}
-use Rattle.std.proofs.Common.{◌++◌, length, take, drop, map, refl, sym, ap, subst, arith, inl, inr}
-use Rattle.std.specs.List.{All, AllPairs, range_with_len}
+use Rattle.std.proofs.Common.{Option, None, Some, IfSome, ◌++◌, length, take, drop, map, refl, sym}
+use Rattle.std.proofs.Common.{ap, subst, arith, inl, inr}
+use Rattle.std.specs.List.{All, AllPairs}
 use Rattle.std.proofs.lemmas.Bool.{cases_lt, le-leb, lt-leb}
 use Rattle.std.proofs.lemmas.List.{length-append, length-map, length-take-le, take-append-drop}
 use Rattle.std.proofs.lemmas.List.{take-map}
-use Rattle.std.proofs.lemmas.List.FromFn.{length-range_with_len, take-map-range_with_len}
+use Rattle.std.proofs.lemmas.Option.{slice_get_within}
 use Rattle.std.proofs.lemmas.List.Elements.{All-cons, All-nil, All-take, recursion_from_All}
 use Rattle.lc_base.specs.declared.digest.Digest.{Digest}
 use Rattle.lc_base.specs.declared.row.Row.{Row}
 use Rattle.lc_base.specs.History.{StandsBefore, up_to}
+use Rattle.lc_base.proofs.Lists.{get_take}
 use Rattle.body_store.specs.Bodies.{KeptBody, BodiesState}
 use Rattle.lineage_rewind.specs.root_laws.Root.{root_of}
 use Rattle.lineage_rewind.proofs.root_laws.Lists.{all_weaker, keep_none}
@@ -23,8 +25,7 @@ use Rattle.lineage_rewind.proofs.lineage_index.StoreEntries.{as_many, earlier_en
 use Rattle.lineage_rewind.specs.lineage_index.Index.{IsIndexOf}
 use Rattle.lineage_rewind.specs.lineage_index.declared.index.LineageIndex.{LineageIndex}
 use Rattle.merkle_dag.specs.Kept.{KeepsLineage}
-use Rattle.merkle_dag.specs.Ledger.{roots_of}
-use Rattle.merkle_dag.proofs.LedgerSteps.{map_on_range}
+use Rattle.merkle_dag.specs.Ledger.{AreRootsMade}
 
 -- ---- rows
 
@@ -88,39 +89,44 @@ first_entries rows at ordered =
 
 -- ---- roots
 
-first_roots : (rows : List Row) (digests roots : List Digest) (at : ℕ) → AllPairs StandsBefore rows
-    → at < length digests → map (λ (root : Digest). root.0) roots ≡ roots_of rows digests
-    → map (λ (root : Digest). root.0) (take (at + 1) roots) ≡ roots_of (up_to rows at)
-    (take (at + 1) digests)
-first_roots rows digests roots at ordered within are =
-    let n = at + 1 in
-    let first = up_to rows at in
-    let p = part rows at ordered in
-    let f = root_of rows digests in
-    let g = root_of first (take n digests) in
-    let long : length (take n digests) ≡ n = length-take-le n digests (omega (arith, within)) in
-    let same : (r : ℕ) → r < n → f r ≡ g r =
-    λ r l. ap (λ (rs : List Row). root_of rs digests r) p.parted
-    ∙ ap (λ (ds : List Digest). root_of (first ++ p.more) ds r)
-    (sym (take-append-drop n digests))
-    ∙ earlier_roots_stay first p.more (take n digests) (drop n digests) r
-    (λ k d m. omega (arith, l, p.later k d m)) (omega (arith, l, long)) in
-    sym (take-map (λ (root : Digest). root.0) n roots) ∙ ap (take n) are
-    ∙ take-map-range_with_len f 0 (length digests) n (omega (arith, within))
-    ∙ map_on_range f g 0 n n (omega arith) same
-    ∙ ap (λ (k : ℕ). map g (range_with_len 0 k)) (sym long)
+first_roots : (rows : List Row) (digests : List Digest) (roots : List (Option Digest)) (at : ℕ)
+    → AllPairs StandsBefore rows → at < length digests → AreRootsMade rows digests roots
+    → AreRootsMade (up_to rows at) (take (at + 1) digests) (take (at + 1) roots)
+first_roots rows digests roots at ordered within made = record {
+  many = length-take-le (at + 1) roots (omega (arith, within, made.many)) ∙ sym long;
+  each = λ r one there.
+      let low : r < at + 1 = omega (
+        arith,
+        slice_get_within (take (at + 1) roots) r one there,
+        length-take-le (at + 1) roots (omega (arith, within, made.many)),
+      ) in
+      stays r one low (made.each r one (sym (get_take (at + 1) r roots low) ∙ there));
+}
+  where
+    long : length (take (at + 1) digests) ≡ at + 1
+    long = length-take-le (at + 1) digests (omega (arith, within))
 
-pub as_many_roots : (rows : List Row) (digests roots : List Digest)
-    → map (λ (root : Digest). root.0) roots ≡ roots_of rows digests → length roots ≡ length digests
-as_many_roots rows digests roots are =
-    sym (length-map roots (λ (root : Digest). root.0)) ∙ ap length are
-    ∙ length-map (range_with_len 0 (length digests)) (root_of rows digests)
-    ∙ length-range_with_len 0 (length digests)
+    same : (r : ℕ) → r < at + 1
+        → root_of rows digests r ≡ root_of (up_to rows at) (take (at + 1) digests) r
+    same r l =
+        let p = part rows at ordered in
+        ap (λ (rs : List Row). root_of rs digests r) p.parted
+        ∙ ap (λ (ds : List Digest). root_of (up_to rows at ++ p.more) ds r)
+        (sym (take-append-drop (at + 1) digests))
+        ∙ earlier_roots_stay (up_to rows at) p.more (take (at + 1) digests) (drop (at + 1) digests) r
+        (λ k d m. omega (arith, l, p.later k d m)) (omega (arith, l, long))
+
+    stays : (r : ℕ) (one : Option Digest) → r < at + 1
+        → IfSome one (λ root. root.0 ≡ root_of rows digests r)
+        → IfSome one (λ root. root.0 ≡ root_of (up_to rows at) (take (at + 1) digests) r)
+    stays r None low is = tt
+    stays r (Some root) low is = is ∙ same r low
 
 -- ---- all that is kept
 
 module _ (rows : List Row) (index first : LineageIndex)
-    (bodies first_bodies : BodiesState) (digests roots : List Digest) (at count : ℕ)
+    (bodies first_bodies : BodiesState) (digests : List Digest) (roots : List (Option Digest))
+    (at count : ℕ)
     (keeps : KeepsLineage rows index bodies digests roots) (within : at < length digests)
     (is : IsIndexOf (up_to rows at) (at + 1) first)
     (count_is : count ≡ length (entries_of (up_to rows at) (up_to rows at))) where

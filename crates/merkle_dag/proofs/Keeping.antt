@@ -1,20 +1,20 @@
 -- What a lineage keeps, at first and with one block more.
-use Rattle.std.proofs.Common.{◌≡◌, ◌∙◌, ℕ, ◌+◌, ◌<◌, List, [], ◌∷◌, ◌++◌, length, map, refl, sym}
+use Rattle.std.proofs.Common.{◌≡◌, ◌∙◌, ℕ, ◌+◌, ◌<◌, List, [], ◌∷◌, ◌++◌, length, Option, None}
+use Rattle.std.proofs.Common.{refl, sym}
 use Rattle.std.proofs.Common.{ap, subst, rules, arith}
 use Rattle.std.specs.List.{All}
 use Rattle.std.proofs.lemmas.List.{length_push}
+use Rattle.std.proofs.lemmas.Option.{none-some}
 use Rattle.std.proofs.lemmas.List.Elements.{All-append, All-cons, All-nil}
-use Rattle.sha2.specs.Sha256.{sha256}
 use Rattle.lc_base.specs.declared.digest.Digest.{Digest}
 use Rattle.lc_base.specs.declared.row.Row.{Row}
 use Rattle.lc_base.specs.History.{IsLawful}
-use Rattle.lineage_rewind.specs.root_laws.Root.{root_of, root_text, leaves}
 use Rattle.lineage_rewind.specs.lineage_index.Growth.{Grows}
 use Rattle.lineage_rewind.specs.lineage_index.Index.{IsIndexOf}
 use Rattle.lineage_rewind.specs.lineage_index.declared.index.LineageIndex.{LineageIndex}
 use Rattle.merkle_dag.specs.declared.limits.TheConstants.{MAX_LINEAGE_BLOCKS}
-use Rattle.merkle_dag.specs.Ledger.{IsLedger, roots_of}
-use Rattle.merkle_dag.proofs.LedgerSteps.{grows_from, roots_after, ledger_after, root_now}
+use Rattle.merkle_dag.specs.Ledger.{IsLedger, AreRootsMade}
+use Rattle.merkle_dag.proofs.LedgerSteps.{grows_from, roots_after, ledger_after}
 
 pub ledger_none : IsLedger [] []
 ledger_none = record {
@@ -25,8 +25,8 @@ ledger_none = record {
   few = omega arith;
 }
 
-pub roots_none : map (λ (root : Digest). root.0) [] ≡ roots_of [] []
-roots_none = refl
+pub roots_none : AreRootsMade [] [] []
+roots_none = record { many = refl; each = λ at made there. absurd (none-some made there) }
 
 pub digests_are : (digests : List Digest) (d : Digest)
     → All (λ (digest : Digest). length digest.0 ≡ 32) digests → length d.0 ≡ 32
@@ -36,15 +36,11 @@ digests_are digests d before now =
     All-append Fits digests (d ∷ []) before (All-cons Fits d [] now (All-nil Fits))
 
 -- the next block: its number and its rows
-module _ (rows new : List Row) (digests roots : List Digest) (n : ℕ) (d root : Digest)
+module _ (rows new : List Row) (digests : List Digest) (roots : List (Option Digest)) (n : ℕ) (d : Digest)
     (ledger : IsLedger rows digests) (count : n ≡ length digests)
     (now : All (λ (row : Row). row.block ≡ n) new) (lawful : IsLawful (rows ++ new)) where
   pub grows : Grows rows new n
   grows = grows_from rows new digests n ledger count now lawful
-
-  pub root_is : root.0 ≡ sha256 (root_text n d.0 (leaves (rows ++ new)))
-      → root.0 ≡ root_of (rows ++ new) (digests ++ d ∷ []) n
-  root_is made = made ∙ sym (root_now rows new digests d n grows count)
 
   pub ledger_is : n < MAX_LINEAGE_BLOCKS → IsLedger (rows ++ new) (digests ++ d ∷ [])
   ledger_is low = ledger_after rows new digests d n grows count low
@@ -54,7 +50,6 @@ module _ (rows new : List Row) (digests roots : List Digest) (n : ℕ) (d root :
   index_is index is = subst (λ (m : ℕ). IsIndexOf (rows ++ new) m index)
       (ap (λ (k : ℕ). k + 1) count ∙ sym (length_push digests d)) is
 
-  pub roots_are : root.0 ≡ sha256 (root_text n d.0 (leaves (rows ++ new)))
-      → map (λ (r : Digest). r.0) roots ≡ roots_of rows digests
-      → map (λ (r : Digest). r.0) (roots ++ root ∷ []) ≡ roots_of (rows ++ new) (digests ++ d ∷ [])
-  roots_are made before = roots_after rows new digests d roots root n grows count before made
+  pub roots_are : AreRootsMade rows digests roots
+      → AreRootsMade (rows ++ new) (digests ++ d ∷ []) (roots ++ None ∷ [])
+  roots_are before = roots_after rows new digests d roots n grows count before

@@ -1,6 +1,7 @@
 -- The rows that are kept, and their bodies.
-use Rattle.std.proofs.Common.{◌≡◌, ◌∙◌, ℕ, zero, suc, List, [], ◌∷◌, ◌++◌, length, map, Some, refl}
-use Rattle.std.proofs.Common.{sym, ap, rules, arith}
+use Rattle.std.proofs.Common.{◌≡◌, ◌∙◌, ℕ, zero, suc, List, [], ◌∷◌, ◌++◌, length, map, Option}
+use Rattle.std.proofs.Common.{Some, refl}
+use Rattle.std.proofs.Common.{sym, ap, subst, rules, arith}
 use Rattle.std.specs.Prelude.{slice_get}
 use Rattle.std.specs.List.{All, concat}
 use Rattle.std.specs.Option.{option_map}
@@ -35,8 +36,9 @@ pub rows_none : (index : LineageIndex) → IsIndexOf [] 0 index → rows_kept in
 unfolding rows_kept
 rows_none index is = ap rows_read (is.store.entries_are ∙ no_entries)
 
-pub keeps_none : (index : LineageIndex) (bodies : BodiesState) (digests roots : List Digest)
-    → IsIndexOf [] 0 index → bodies.kept ≡ [] → digests ≡ [] → roots ≡ []
+pub keeps_none : (index : LineageIndex) (bodies : BodiesState) (digests : List Digest)
+    (roots : List (Option Digest)) → IsIndexOf [] 0 index → bodies.kept ≡ [] → digests ≡ []
+    → roots ≡ []
     → KeepsLineage (rows_kept index) index bodies digests roots
 keeps_none index bodies digests roots is none no_digests no_roots = rw
     (rows_none index is, no_digests, no_roots) (record {
@@ -52,7 +54,8 @@ keeps_none index bodies digests roots is none no_digests no_roots = rw
 -- ---- the same of equal lists
 
 pub keeps_at : (rows others : List Row) (index : LineageIndex)
-    (bodies : BodiesState) (digests digests_after roots roots_after : List Digest)
+    (bodies : BodiesState) (digests digests_after : List Digest)
+    (roots roots_after : List (Option Digest))
     → others ≡ rows → digests_after ≡ digests → roots_after ≡ roots
     → KeepsLineage rows index bodies digests roots
     → KeepsLineage others index bodies digests_after roots_after
@@ -130,3 +133,28 @@ bodies_after rows new n blocks before after old more grows is over kept added =
     added ∙ ap (λ (l : List (List ℕ)). l ++ map (bytes_of all) new) first
     ∙ sym (map-append (bytes_of all) rows new)
     ∙ sym (bodies_of_entries all [] all) ∙ ap (map body) (sym over.store.entries_are)
+
+-- ---- the same rows, with other hashes
+
+-- the rows are read of the entries alone
+pub rows_same : (before after : LineageIndex) → after.store ≡ before.store
+    → rows_kept after ≡ rows_kept before
+unfolding rows_kept
+rows_same before after same = ap rows_read same
+
+-- what belongs together does so with an index over the same entries
+pub keeps_settled : (before after : LineageIndex) (bodies : BodiesState) (digests : List Digest)
+    (roots : List (Option Digest)) → after.store ≡ before.store
+    → ((rows : List Row) (n : ℕ) → IsIndexOf rows n before → IsIndexOf rows n after)
+    → KeepsLineage (rows_kept before) before bodies digests roots
+    → KeepsLineage (rows_kept after) after bodies digests roots
+keeps_settled before after bodies digests roots same index keeps =
+    subst (λ (rows : List Row). KeepsLineage rows after bodies digests roots)
+    (sym (rows_same before after same)) (record {
+      ledger = keeps.ledger;
+      typed = keeps.typed;
+      digests_fit = keeps.digests_fit;
+      index_is = index (rows_kept before) (length digests) keeps.index_is;
+      bodies_are = keeps.bodies_are ∙ ap (map (λ (entry : Entry). entry.body)) (sym same);
+      roots_are = keeps.roots_are;
+    })

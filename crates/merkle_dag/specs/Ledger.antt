@@ -1,7 +1,7 @@
 -- A ledger: the rows of a history, and the digests of its blocks.
-use Rattle.std.specs.Prelude.{◌≡◌, ℕ, ◌<◌, ◌≤◌, ◌+◌, ◌-◌, ◌*◌, List, length, map, Option}
-use Rattle.std.specs.Prelude.{MatchOption}
-use Rattle.std.specs.List.{All, range_with_len}
+use Rattle.std.specs.Prelude.{◌≡◌, ℕ, ◌<◌, ◌≤◌, ◌+◌, ◌-◌, ◌*◌, List, length, slice_get, Option, Some}
+use Rattle.std.specs.Prelude.{IfSome, MatchOption}
+use Rattle.std.specs.List.{All}
 use Rattle.lc_base.specs.declared.digest.Digest.{Digest}
 use Rattle.lc_base.specs.declared.row.Row.{Row}
 use Rattle.lc_base.specs.History.{IsLawful}
@@ -21,9 +21,12 @@ pub record IsLedger (rows : List Row) (digests : List Digest) : Type 0 where
   pub within : All (λ (row : Row). row.block < length digests) rows
   pub few : length digests ≤ MAX_LINEAGE_BLOCKS
 
--- The roots of all blocks.
-abbrev pub roots_of : List Row → List Digest → List (List ℕ)
-roots_of rows digests = map (root_of rows digests) (range_with_len 0 (length digests))
+-- An item for each block: the root at it, if it was made.
+pub record AreRootsMade (rows : List Row) (digests : List Digest) (roots : List (Option Digest)) :
+    Type 0 where
+  pub many : length roots ≡ length digests
+  pub each : (at : ℕ) (made : Option Digest) → slice_get roots at ≡ Some made
+      → IfSome made (λ root. root.0 ≡ root_of rows digests at)
 
 -- The number of the last block; `None` if there is no block.
 abbrev pub IsHead : List Digest → Option ℕ → Type 0

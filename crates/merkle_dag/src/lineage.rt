@@ -17,6 +17,7 @@ ghost use Rattle.std.specs.{
     length,
     slice_get,
     take,
+    IfErr,
     IfOk,
     IsErrOf,
     MatchOption,
@@ -49,8 +50,9 @@ ghost use Rattle.merkle_dag.specs.{
   Lineage.{AgreesWith, AreFactsOf, LeavesLineage, first_bodies, ledger_in},
 };
 
-use crate::kept::{Kept, discard, grow};
+use crate::kept::{Kept, discard, grow, settle};
 use crate::rewinding::first_blocks;
+use crate::root::{make_root, root_at};
 use crate::uses::{nth_version, users_of, versions_at};
 use body_store::Bodies;
 use lc_base::{Dep, DepList, Digest, HostError, Key, Memory, Resources, RowList};
@@ -59,8 +61,8 @@ use lineage_rewind::{EntryId, EntryList, Facts, Header, LineageIndex, Steps, Sto
 use std::marker::Model;
 use std::rc::RcSlice;
 
-/// What is kept of the rows of all blocks, and the digest and the root of each block. The bodies of
-/// the rows are on a scratch device.
+/// What is kept of the rows of all blocks, the digest of each block, and the roots that were made.
+/// The bodies of the rows are on a scratch device.
 #[derive(Drop)]
 pub struct Lineage {
     pub(crate) kept: Kept,
@@ -127,14 +129,69 @@ impl Lineage {
         ensures cause { HasCause (S.scratch_faults scratch.old) (S.scratch_faults scratch.new)
             (IsErrOf result HostError.Fault) }
     {
+        match self.add_rows(scratch, number, digest, rows) {
+            Ok(lineage) => lineage.with_root(number),
+            Err(error) => Err(error),
+        }
+    }
+
+    /// Adds a block as `add_block` does, but makes no root: nothing is hashed but the bodies and the
+    /// headers of its rows. The root at the block is made when it is asked for.
+    pub fn add_rows<S: Scratch>(
+        self,
+        scratch: &mut S,
+        number: u32,
+        digest: Digest,
+        rows: &RowList,
+    ) -> Result<Lineage, HostError>
+        requires next { number ≡ length self.digests }
+        requires low { number < MAX_LINEAGE_BLOCKS }
+        requires block { All (λ (row : Row). row.block ≡ number) rows.now }
+        requires lawful { IsLawful (self.rows ++ rows.now) }
+        requires agrees { AgreesWith self (S.state scratch.old) }
+        ensures kept { IfOk result
+            (λ lineage. ledger_in lineage ≡ record
+            { rows = self.rows ++ rows.now; digests = self.digests ++ digest ∷ [] }) }
+        ensures agrees { IfOk result (λ lineage. AgreesWith lineage (S.state scratch.new)) }
+        ensures retains { Retains (S.state scratch.old) (S.state scratch.new) }
+        ensures cause { HasCause (S.scratch_faults scratch.old) (S.scratch_faults scratch.new)
+            (IsErrOf result HostError.Fault) }
+    {
         let Lineage { mut kept } = self;
         match grow(&mut kept, scratch, number, digest, rows) {
-            Ok(root) => Ok((Lineage { kept }, root)),
+            Ok(()) => Ok(Lineage { kept }),
             Err(error) => {
                 discard(kept);
                 Err(error)
             }
         }
+    }
+
+    /// Makes the root at the last block, keeps it, and returns it. Out of memory, the lineage is
+    /// given up.
+    fn with_root(self, last: u32) -> Result<(Lineage, Digest), HostError>
+        requires last { last + 1 ≡ length self.digests }
+        ensures same { IfOk result (λ pair. pair.0 ≡ self) }
+        ensures root { IfOk result (λ pair. pair.1.0 ≡ root_of self.rows self.digests last) }
+        ensures err { IfErr result (λ error. error ≡ HostError.Memory) }
+    {
+        let Lineage { mut kept } = self;
+        match make_root(&mut kept, last) {
+            Ok(root) => Ok((Lineage { kept }, root)),
+            Err(Memory) => {
+                discard(kept);
+                Err(HostError::Memory)
+            }
+        }
+    }
+
+    /// Hashes the leaves that blocks changed since leaves were last hashed. It changes no answer:
+    /// call it before several questions to the tree, as each of them hashes all leaves else. Out of
+    /// memory, the lineage stays as it was too.
+    pub fn settle(&mut self) -> Result<(), Memory>
+        ensures { self.new ≡ self.old }
+    {
+        settle(&mut self.kept)
     }
 
     /// Drops the lineage. What it keeps has many parts; a function that drops it by this call, and
@@ -153,13 +210,14 @@ impl Lineage {
         Some((self.kept.digests.len() - 1) as u32)
     }
 
-    /// The root at a block; `None` exactly if the block is past the last one.
+    /// The root at a block; `None` exactly if the block is past the last one. A root that
+    /// `add_block` made is kept; any other one is made anew each time. It takes no memory.
     pub fn root(&self, at: u32) -> Option<Digest>
         ensures { MatchOption result (length self.now.digests ≤ at)
             (λ root. (at < length self.now.digests)
             × (root.0 ≡ root_of self.now.rows self.now.digests at)) }
     {
-        digest_at(&self.kept.roots, at)
+        root_at(&self.kept, at)
     }
 
     /// The digest that a block was added with; `None` exactly if the block is past the last one.

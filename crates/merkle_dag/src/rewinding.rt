@@ -8,20 +8,20 @@ ghost use Rattle.body_store.specs.Agreement.{Agrees};
 ghost use Rattle.merkle_dag.specs.{Kept.{IsWhole, rows_kept}, Lineage.{first_bodies}};
 
 use crate::kept::Kept;
-use lc_base::{Digest, Memory};
+use lc_base::Memory;
 use lineage_rewind::front;
 use std::alloc::{AllocError, Global};
 
-/// The first `count` digests.
-fn first_digests(alloc: Global, digests: &[Digest], count: usize) -> Result<Vec<Digest>, AllocError>
-    requires { count ≤ length digests.now }
-    ensures { IfOk result (λ first. first.items ≡ take count digests.now) }
+/// The first `count` items.
+fn first_items<T: Copy>(alloc: Global, items: &[T], count: usize) -> Result<Vec<T>, AllocError>
+    requires { count ≤ length items.now }
+    ensures { IfOk result (λ first. first.items ≡ take count items.now) }
 {
-    Vec::from_slice(alloc, &digests[..count])
+    Vec::from_slice(alloc, &items[..count])
 }
 
 /// What is kept of the blocks 0 to `at`. No row and no body is read: entries, and where bodies are
-/// kept, are shared with the lineage of all blocks.
+/// kept, are shared with the lineage of all blocks. Of their roots it has those that were made.
 pub(crate) fn first_blocks(alloc: Global, kept: &Kept, at: u32) -> Result<Kept, Memory>
     requires whole { IsWhole kept.now }
     requires within { at < length kept.now.digests.items }
@@ -38,8 +38,8 @@ pub(crate) fn first_blocks(alloc: Global, kept: &Kept, at: u32) -> Result<Kept, 
         kept.now.bodies) }
 {
     let count = at as usize + 1;
-    let digests = first_digests(alloc, &kept.digests, count)?;
-    let roots = first_digests(alloc, &kept.roots, count)?;
+    let digests = first_items(alloc, &kept.digests, count)?;
+    let roots = first_items(alloc, &kept.roots, count)?;
     let index = front(alloc, &kept.index, at)?;
     let bodies = kept.bodies.front(index.store().count())?;
     Ok(Kept {

@@ -10,9 +10,11 @@ use Rattle.contract_tree.specs.declared.tree.Contract.{Contract}
 use Rattle.world_state.specs.Known.{Known}
 use Rattle.world_state.specs.World.{newest_of, StandsForRows}
 use Rattle.chain_replay.specs.chain_exec.BlockRows.{AreBlockRows}
-use Rattle.chain_replay.specs.Chain.{HasRoom, IsKeptChain}
+use Rattle.chain_replay.specs.Chain.{HasRoom, IsAfter, IsKeptChain}
+use Rattle.chain_replay.specs.chain_exec.declared.block.BlockRun.{BlockRun}
 use Rattle.chain_replay.proofs.Kept.{next_lawful, next_kept}
-use Rattle.prov_query.specs.merkle_dag.Lineage.{LineageState}
+use Rattle.prov_query.specs.merkle_dag.Ledger.{Ledger}
+use Rattle.prov_query.specs.merkle_dag.Lineage.{LineageState, ledger_in}
 use Rattle.rooted_chain.specs.Roots.{RootedState, kept_in}
 
 -- what a chain keeps, by its parts
@@ -38,3 +40,23 @@ module _ (lineage : LineageState) (world : Known Contract) (rooted : RootedState
       (subst (λ (r : RootedState). length r.digests < MAX_MARKED_BLOCKS) (sym seen) room.room) run_lawful written stands no_rows no_codes in
       subst (λ (ds : List Digest). IsKeptChain ds rows after) (sym digests_are)
       (subst (λ (all : List Row). IsKeptChain (lineage.digests ++ digest ∷ []) all after) (sym rows_are) longer)
+
+-- a chain whose lineage has got the rows of the next block
+module _ (old : RootedState) (before after : LineageState) (digest : Digest) (more : List Row) (same_digests : before.digests ≡ old.digests) (same_rows : before.rows ≡ old.rows)
+    (added : ledger_in after ≡ record { rows = before.rows ++ more; digests = before.digests ++ digest ∷ [] }) where
+  pub digest_added : after.digests ≡ old.digests ++ digest ∷ []
+  digest_added = ap (λ (ledger : Ledger). ledger.digests) added ∙ ap (λ (digests : List Digest). digests ++ digest ∷ []) same_digests
+
+  pub rows_added : after.rows ≡ old.rows ++ more
+  rows_added = ap (λ (ledger : Ledger). ledger.rows) added ∙ ap (λ (rows : List Row). rows ++ more) same_rows
+
+  pub kept_added : (world : Known Contract) → IsKeptChain (old.digests ++ digest ∷ []) (old.rows ++ more) world → IsKeptChain after.digests after.rows world
+  kept_added world kept =
+      subst (λ (digests : List Digest). IsKeptChain digests after.rows world) (sym digest_added)
+      (subst (λ (rows : List Row). IsKeptChain (old.digests ++ digest ∷ []) rows world) (sym rows_added) kept)
+
+  pub after_added : (block : Block) (codes : List (List ℕ × Contract)) (run : BlockRun) → IsAfter (kept_in old) block digest (record { digests = old.digests ++ digest ∷ []; rows = old.rows ++ more; codes = codes }) run
+      → IsAfter (kept_in old) block digest (kept_in (rooted_of after codes)) run
+  after_added block codes run is =
+      subst (λ (digests : List Digest). IsAfter (kept_in old) block digest (record { digests = digests; rows = after.rows; codes = codes }) run) (sym digest_added)
+      (subst (λ (rows : List Row). IsAfter (kept_in old) block digest (record { digests = old.digests ++ digest ∷ []; rows = rows; codes = codes }) run) (sym rows_added) is)

@@ -84,7 +84,8 @@ impl LineageChain {
         self.lineage.digest(at)
     }
 
-    /// The root at the block `at`; `None` exactly if the chain has no such block.
+    /// The root at the block `at`; `None` exactly if the chain has no such block. A root that
+    /// `with_block` made is kept; any other one is made anew each time.
     pub fn root(&self, at: u32) -> Option<Digest>
         ensures root { MatchOption result (length self.now.digests ≤ at) (λ root. (at < length self.now.digests) × (root.0 ≡ root_of self.now.rows self.now.digests at)) }
         ensures stands { (blocks : List Blocks) → StandsFor (kept_in self.now) blocks → MatchOption result (length blocks ≤ at) (λ root. (at < length blocks) × (root.0 ≡ root_in compiled_in blocks at)) }
@@ -109,6 +110,7 @@ impl LineageChain {
     }
 }
 
+// No root is made of a block that is replayed: most chains are asked for one or for none.
 impl Replay for LineageChain {
     ghost kept = { λ chain. kept_in chain };
 
@@ -146,8 +148,8 @@ impl Replay for LineageChain {
         block: &Block,
         digest: Digest,
     ) -> Result<LineageChain, HostError> {
-        match self.with_block(alloc, scratch, block, digest) {
-            Ok((longer, _run, _root)) => Ok(longer),
+        match self.with_rows(alloc, scratch, block, digest) {
+            Ok((longer, _run)) => Ok(longer),
             Err(error) => Err(error),
         }
     }

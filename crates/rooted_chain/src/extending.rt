@@ -1,5 +1,5 @@
-//! The next block of a chain: a chain whose block couldn't be run, committed and added is
-//! discarded.
+//! The next block of a chain, and the root at it: a chain whose block couldn't be run, committed and
+//! added is discarded.
 
 ghost use Rattle.std.specs.Prelude.{◌≡◌, ◌≤◌, ◌+◌, ◌*◌, true, [], ◌∷◌, ◌++◌, length, IfOk, IsErrOf};
 ghost use Rattle.lc_base.specs.{
@@ -18,16 +18,16 @@ ghost use Rattle.prov_query.specs.merkle_dag.Lineage.{AgreesWith};
 ghost use Rattle.rooted_chain.specs.Roots.{kept_in, lineage_in, root_in, IsSoWithNext};
 
 use crate::chain::{LineageChain, discard};
-use crate::running::run_next;
+use crate::running::Committed;
 use block_codec::Block;
 use chain_replay::BlockRun;
-use lc_base::{Digest, HostError, Memory};
+use lc_base::{Digest, HostError};
 use lc_io::Scratch;
 use std::alloc::Global;
 
 impl LineageChain {
     /// Runs the next block: the chain with this block after the others, what the block did, and the
-    /// root at it. On an error the chain is discarded.
+    /// root at it, which is kept. On an error the chain is discarded.
     pub fn with_block<S: Scratch>(
         self,
         alloc: Global,
@@ -56,24 +56,13 @@ impl LineageChain {
         ensures retains { Retains (S.state scratch.old) (S.state scratch.new) }
         ensures cause { HasCause (S.scratch_faults scratch.old) (S.scratch_faults scratch.new) (IsErrOf result Fault) }
     {
-        let LineageChain {
-            mut lineage,
-            mut world,
-        } = self;
-        let run = match run_next(alloc, &mut lineage, scratch, &mut world, block) {
-            Ok(run) => run,
-            Err(error) => {
-                lineage.give_up();
-                discard(world);
-                return Err(error);
-            }
-        };
-        let world = match world.commit() {
-            Ok(world) => world,
-            Err(Memory) => {
-                lineage.give_up();
-                return Err(HostError::Memory);
-            }
+        let Committed {
+            lineage,
+            world,
+            run,
+        } = match self.run_and_commit(alloc, scratch, block) {
+            Ok(committed) => committed,
+            Err(error) => return Err(error),
         };
         match lineage.add_block(scratch, block.number, digest, &run.rows) {
             Ok((lineage, root)) => {
@@ -82,10 +71,52 @@ impl LineageChain {
             }
             Err(error) => {
                 discard(world);
-                match error {
-                    HostError::Fault => Err(HostError::Fault),
-                    HostError::Memory => Err(HostError::Memory),
-                }
+                Err(error)
+            }
+        }
+    }
+
+    /// Runs the next block as `with_block` does, but makes no root: the chain with this block after
+    /// the others, and what the block did. The root at it is made when it is asked for.
+    pub fn with_rows<S: Scratch>(
+        self,
+        alloc: Global,
+        scratch: &mut S,
+        block: &Block,
+        digest: Digest,
+    ) -> Result<(LineageChain, BlockRun), HostError>
+        requires room { HasRoom (kept_in self) block.now }
+        requires is_block { IsBlock block.now }
+        requires agrees { AgreesWith (lineage_in self) (S.state scratch.old) }
+        // Holds if it is known which bytes the device holds.
+        ensures after { IfOk result (λ done. is_known (S.state scratch.old) ≡ true → IsAfter (kept_in self) block.now digest (kept_in done.0) done.1) }
+        ensures stands { IfOk result
+            (λ done. is_known (S.state scratch.old) ≡ true
+            → IsSoWithNext (kept_in self) block.now digest (StandsFor (kept_in done.0))) }
+        // Holds in either case.
+        ensures digests { IfOk result (λ done. done.0.digests ≡ self.digests ++ digest ∷ []) }
+        ensures rows { IfOk result (λ done. done.0.rows ≡ self.rows ++ done.1.rows) }
+        ensures few { IfOk result (λ done. length done.0.rows ≤ length self.rows + MAX_KEYS_PUT * length block.now.txs) }
+        ensures agrees { IfOk result (λ done. AgreesWith (lineage_in done.0) (S.state scratch.new)) }
+        ensures retains { Retains (S.state scratch.old) (S.state scratch.new) }
+        ensures cause { HasCause (S.scratch_faults scratch.old) (S.scratch_faults scratch.new) (IsErrOf result Fault) }
+    {
+        let Committed {
+            lineage,
+            world,
+            run,
+        } = match self.run_and_commit(alloc, scratch, block) {
+            Ok(committed) => committed,
+            Err(error) => return Err(error),
+        };
+        match lineage.add_rows(scratch, block.number, digest, &run.rows) {
+            Ok(lineage) => {
+                let chain = LineageChain { lineage, world };
+                Ok((chain, run))
+            }
+            Err(error) => {
+                discard(world);
+                Err(error)
             }
         }
     }

@@ -18,18 +18,18 @@ is_decoded g c block spells =
     let same : block ≡ c.in-Ok.block = cc in
     sym same
 
-pub returns-in-Ok-with_block-clause-stands : goal.returns-in-Ok-with_block-clause-stands
-returns-in-Ok-with_block-clause-stands g c known blocks block stands spells next =
+pub returns-in-Ok-with_rows-clause-stands : goal.returns-in-Ok-with_rows-clause-stands
+returns-in-Ok-with_rows-clause-stands g c known blocks block stands spells next =
     let same = is_decoded g c block spells in
-    subst (λ (b : Block). StandsFor (kept_in c.in-Ok-with_block.longer) (blocks ++ b ∷ [])) same
-    (c.in-Ok-with_block.ensures.stands known blocks stands
+    subst (λ (b : Block). StandsFor (kept_in c.in-Ok-with_rows.longer) (blocks ++ b ∷ [])) same
+    (c.in-Ok-with_rows.ensures.stands known blocks stands
     (c.block_digest-digest.ensures ∙ ap bytes_digest c.in-Ok.ensures.found.spelled) (rw same next))
 
-pub returns-in-Ok-with_block-clause-few : goal.returns-in-Ok-with_block-clause-few
-returns-in-Ok-with_block-clause-few g c block spells =
-    subst (λ (b : Block). length c.in-Ok-with_block.longer.rows ≤ length c.args.chain.rows + MAX_KEYS_PUT * length b.txs)
-    (is_decoded g c block spells) c.in-Ok-with_block.ensures.few
+pub returns-in-Ok-with_rows-clause-few : goal.returns-in-Ok-with_rows-clause-few
+returns-in-Ok-with_rows-clause-few g c block spells =
+    subst (λ (b : Block). length c.in-Ok-with_rows.longer.rows ≤ length c.args.chain.rows + MAX_KEYS_PUT * length b.txs)
+    (is_decoded g c block spells) c.in-Ok-with_rows.ensures.few
 
-pub returns-in-Ok-with_block-clause-cause : goal.returns-in-Ok-with_block-clause-cause
-returns-in-Ok-with_block-clause-cause g c =
-    blameless _ _ (unblamed _ _ c.in-Ok-with_block.ensures.cause)
+pub returns-in-Ok-with_rows-clause-cause : goal.returns-in-Ok-with_rows-clause-cause
+returns-in-Ok-with_rows-clause-cause g c =
+    blameless _ _ (unblamed _ _ c.in-Ok-with_rows.ensures.cause)

@@ -1,12 +1,10 @@
 use Rattle.std.proofs.Common.{◌≡◌, ◌∙◌, ◌+◌, ◌++◌, ◌∷◌, [], sym, ap, subst, List, ℕ, length, map}
+use Rattle.std.proofs.Common.{None}
 use Rattle.std.proofs.Common.{arith}
 use Rattle.std.specs.List.{All}
 use Rattle.std.proofs.lemmas.List.{length-append, length-map}
 use Rattle.std.proofs.lemmas.List.Elements.{All-append}
-use Rattle.sha2.specs.Sha256.{sha256}
 use Rattle.lc_base.specs.declared.row.Row.{Row}
-use Rattle.lineage_rewind.specs.prov_entry.declared.entry.Leaf.{Leaf}
-use Rattle.lineage_rewind.specs.root_laws.Root.{root_text, leaves}
 use Rattle.lineage_rewind.specs.root_laws.TypedLedger.{IsTypedRow}
 use Rattle.lineage_rewind.specs.lineage_index.Growth.{Grows}
 use Rattle.lineage_rewind.specs.lineage_index.Index.{IsIndexOf}
@@ -15,7 +13,7 @@ use Rattle.lineage_rewind.specs.entry_store.Entries.{Entry}
 use Rattle.merkle_dag.specs.declared.kept.Kept.{Kept}
 use Rattle.merkle_dag.specs.Adding.{bytes_of}
 use Rattle.merkle_dag.specs.Kept.{rows_kept}
-use Rattle.merkle_dag.proofs.Keeping.{digests_are, grows, root_is, ledger_is, index_is, roots_are}
+use Rattle.merkle_dag.proofs.Keeping.{digests_are, grows, ledger_is, index_is, roots_are}
 use Rattle.merkle_dag.proofs.RowBodies.{as_many_bodies, bodies_after, keeps_at, rows_are}
 use Rattle.merkle_dag.proofs.kept.grow.Given.{Over}
 use Rattle.merkle_dag.proofs.kept.grow.Goals as goal
@@ -29,7 +27,7 @@ add_block-requires g c =
       c.args.number,
       subst (λ (new : List Row). Grows rows new c.args.number) (sym c.as_slice-2.ensures)
           (grows rows c.args.new.now old.digests.items old.roots.items c.args.number c.args.digest
-          c.args.digest given.whole.ledger given.next given.block given.lawful),
+          given.whole.ledger given.next given.block given.lawful),
       subst (λ (m : ℕ). IsIndexOf rows m old.index) (sym given.next) given.whole.index_is,
     )
 
@@ -41,7 +39,7 @@ add_bodies-added-requires-clause-room g c =
     let growing = subst (λ (new : List Row). Grows rows new c.args.number) (sym
     c.as_slice-2.ensures)
     (grows rows c.args.new.now old.digests.items old.roots.items c.args.number c.args.digest
-    c.args.digest given.whole.ledger given.next given.block given.lawful) in
+    given.whole.ledger given.next given.block given.lawful) in
     let before = subst (λ (m : ℕ). IsIndexOf rows m old.index) (sym given.next)
     given.whole.index_is in
     omega (
@@ -71,7 +69,7 @@ module _ (g : Over) (c : goal.After-drop-spelled-inside-in-Ok g) where
   number = c.args.number
 
   growing : Grows rows new number
-  growing = grows rows new old.digests.items old.roots.items number c.args.digest c.args.digest
+  growing = grows rows new old.digests.items old.roots.items number c.args.digest
       c.requires.whole.ledger c.requires.next c.requires.block c.requires.lawful
 
   before : IsIndexOf rows number old.index
@@ -108,39 +106,25 @@ module _ (g : Over) (c : goal.After-drop-spelled-inside-in-Ok g) where
       (c.in-Ok.ensures.bodies
       ∙ ap (λ (more : List (List ℕ)). bodies_in old.bodies ++ more) spelled)
 
-  made : c.root_of_tree-root.result.0 ≡ sha256
-      (root_text number c.args.digest.0 (leaves (rows ++ new)))
-  made = c.root_of_tree-root.ensures
-      ∙ ap (λ (ls : List Leaf). sha256 (root_text number c.args.digest.0 ls))
-      (c.tree.ensures (rows ++ new) (number + 1) index)
-
 pub returns-in-Ok-clause-whole : goal.returns-in-Ok-clause-whole
 returns-in-Ok-clause-whole g c =
     let given = c.requires in
-    let root = c.root_of_tree-root.result in
     let digests = (old g c).digests.items in
     let roots = (old g c).roots.items in
     keeps_at (rows g c ++ new g c) _ c.add_block.new.self
-    c.add_bodies-added.new.bodies (digests ++ c.args.digest ∷ []) _ (roots ++ root ∷ []) _
+    c.add_bodies-added.new.bodies (digests ++ c.args.digest ∷ []) _ (roots ++ None ∷ []) _
     (all_rows g c) c.in_ok-push.ensures.items c.in_ok-push-2.ensures.items (record {
-      ledger = ledger_is (rows g c) (new g c) digests roots c.args.number c.args.digest root
+      ledger = ledger_is (rows g c) (new g c) digests roots c.args.number c.args.digest
           given.whole.ledger given.next given.block given.lawful given.low;
       typed = typed g c;
       digests_fit = digests_are digests c.args.digest given.whole.digests_fit
           c.check_digest.ensures;
-      index_is = index_is (rows g c) (new g c) digests roots c.args.number c.args.digest root
+      index_is = index_is (rows g c) (new g c) digests roots c.args.number c.args.digest
           given.whole.ledger given.next given.block given.lawful c.add_block.new.self (index g c);
       bodies_are = bodies g c;
-      roots_are = roots_are (rows g c) (new g c) digests roots c.args.number c.args.digest root
-          given.whole.ledger given.next given.block given.lawful (made g c) given.whole.roots_are;
+      roots_are = roots_are (rows g c) (new g c) digests roots c.args.number c.args.digest
+          given.whole.ledger given.next given.block given.lawful given.whole.roots_are;
     })
 
 pub returns-in-Ok-clause-rows : goal.returns-in-Ok-clause-rows
 returns-in-Ok-clause-rows g c = all_rows g c
-
-pub returns-in-Ok-clause-root : goal.returns-in-Ok-clause-root
-returns-in-Ok-clause-root g c =
-    let given = c.requires in
-    root_is (rows g c) (new g c) (old g c).digests.items (old g c).roots.items c.args.number
-    c.args.digest c.root_of_tree-root.result given.whole.ledger given.next given.block
-    given.lawful (made g c)

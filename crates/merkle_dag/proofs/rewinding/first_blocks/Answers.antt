@@ -4,7 +4,7 @@ use Rattle.body_store.specs.Bodies.{BodiesState}
 use Rattle.lineage_rewind.proofs.lineage_index.StoreEntries.{as_many}
 use Rattle.merkle_dag.specs.Kept.{rows_kept}
 use Rattle.merkle_dag.specs.Lineage.{first_bodies}
-use Rattle.merkle_dag.proofs.FirstBlocks.{as_many_roots, count_within, first_keeps, first_typed}
+use Rattle.merkle_dag.proofs.FirstBlocks.{count_within, first_keeps, first_typed}
 use Rattle.merkle_dag.proofs.RowBodies.{keeps_at, rows_are}
 use Rattle.merkle_dag.proofs.rewinding.first_blocks.Goals as goal
 
@@ -20,15 +20,14 @@ front-requires-2 c =
     (c.count.ensures.count ∙ ap length
     (c.store.ensures (up_to rows c.args.at) (c.args.at + 1) first_is))
 
-pub first_digests-requires-2 : goal.first_digests-requires-2
-first_digests-requires-2 c =
+pub first_items-requires-2 : goal.first_items-requires-2
+first_items-requires-2 c =
     let kept = c.args.kept.now in
     omega (
       arith,
       c.requires.within,
       ap length c.deref-2.ensures.value,
-      as_many_roots
-          (rows_kept kept.index) kept.digests.items kept.roots.items c.requires.whole.roots_are,
+      c.requires.whole.roots_are.many,
     )
 
 pub returns-clause-rows : goal.returns-clause-rows
