@@ -1,5 +1,7 @@
 -- Blocks that are read one after another are a chain.
-use Rattle.std.proofs.Common.{◌≡◌, ◌≢◌, inl, inr, ℕ, zero, suc, ◌+◌, ◌-◌, ◌≤◌, ◌<◌, Bool, true, false, List, [], ◌∷◌, ◌++◌, length, length-append, take, drop, map, refl, sym, ◌∙◌, ap, subst, arith}
+use Rattle.std.proofs.Common.{◌≡◌, ◌≢◌, inl, inr, ℕ, zero, suc, ◌+◌, ◌-◌, ◌≤◌, ◌<◌, Bool, true}
+use Rattle.std.proofs.Common.{false, List, [], ◌∷◌, ◌++◌, length, length-append, take, drop, map}
+use Rattle.std.proofs.Common.{refl, sym, ◌∙◌, ap, subst, arith}
 use Rattle.std.specs.Prelude.{◌==◌, Option, Some, None, Result, Ok, Err, slice_get}
 use Rattle.std.specs.Option.{option_map}
 use Rattle.std.proofs.lemmas.List.{length-map, map-append, take-append-le, take_at}
@@ -21,7 +23,7 @@ use Rattle.block_log.specs.declared.layout.TheConstants.{MAX_RECORDS}
 use Rattle.block_log.specs.declared.layout.Stored.{Stored}
 use Rattle.block_log.specs.Standing.{Placer, if_next, next_decoded, blocks_in}
 use Rattle.block_log.specs.Log.{AreStored, IsSmall, log_placement, marks, next_in_log}
-use Rattle.block_log.specs.Reader.{AreRead, IsNear, log_at, next_of, stored_at}
+use Rattle.block_log.specs.Reader.{AreReadTo, IsNear, log_at, next_of, stored_at}
 use Rattle.block_log.specs.declared.reading.Record.TheVariants as records
 use Rattle.block_log.specs.Reading.{record_of}
 use Rattle.block_log.proofs.NextRecord.{room_by, placed_next, last_of}
@@ -33,16 +35,19 @@ pub record IsGiven (next : Stored) (gate : ℕ) (found : Option Block) : Type 0 
   pub found_is : found ≡ Some block
   pub next_is : next ≡ stored_at gate block
 
-pub given : (next : Stored) (gate : ℕ) (found : Option Block) → Some next ≡ option_map (stored_at gate) found → IsGiven next gate found
+pub given : (next : Stored) (gate : ℕ) (found : Option Block)
+    → Some next ≡ option_map (stored_at gate) found → IsGiven next gate found
 given next gate None is = absurd (cc is)
 given next gate (Some block) is = record { block = block; found_is = refl; next_is = cc is }
 
 -- No block was found.
-pub none_given : (gate : ℕ) (found : Option Block) → None ≡ option_map (stored_at gate) found → found ≡ None
+pub none_given : (gate : ℕ) (found : Option Block) → None ≡ option_map (stored_at gate) found
+    → found ≡ None
 none_given gate None is = refl
 none_given gate (Some block) is = absurd (cc is)
 
-pub placed : (decoded block : Block) (placement : Placement) → if_next decoded placement ≡ Some block → (placement ≡ Next) × (decoded ≡ block)
+pub placed : (decoded block : Block) (placement : Placement)
+    → if_next decoded placement ≡ Some block → (placement ≡ Next) × (decoded ≡ block)
 placed decoded block Next is = (refl, cc is)
 placed decoded block Known is = absurd (cc is)
 placed decoded block (Not why) is = absurd (cc is)
@@ -54,12 +59,14 @@ is_placed place marked blocks (Ok decoded) block is =
     subst (λ b. place marked blocks b ≡ Next) p.1 p.0
 is_placed place marked blocks (Err offset) block is = absurd (cc is)
 
-slice_get_left : (stored : List Stored) (last : Stored) (i : ℕ) → i < length stored → slice_get (stored ++ last ∷ []) i ≡ slice_get stored i
+slice_get_left : (stored : List Stored) (last : Stored) (i : ℕ) → i < length stored
+    → slice_get (stored ++ last ∷ []) i ≡ slice_get stored i
 slice_get_left [] last i lt = absurd (omega (arith, lt))
 slice_get_left (s ∷ stored) last zero lt = refl
 slice_get_left (s ∷ stored) last (suc i) lt = slice_get_left stored last i (omega (arith, lt))
 
-slice_get_last : (stored : List Stored) (last s : Stored) (i : ℕ) → length stored ≤ i → slice_get (stored ++ last ∷ []) i ≡ Some s → (i ≡ length stored) × (s ≡ last)
+slice_get_last : (stored : List Stored) (last s : Stored) (i : ℕ) → length stored ≤ i
+    → slice_get (stored ++ last ∷ []) i ≡ Some s → (i ≡ length stored) × (s ≡ last)
 slice_get_last [] last s zero le is = (refl, cc is)
 slice_get_last [] last s (suc i) le is = absurd (cc is)
 slice_get_last (t ∷ stored) last s zero le is = absurd (omega (arith, le))
@@ -97,20 +104,23 @@ none_next block Next other = absurd (other refl)
 none_next block Known other = refl
 none_next block (Not why) other = refl
 
-both_next : (block : Block) (a b : Placement) → (a ≡ Next → b ≡ Next) → (b ≡ Next → a ≡ Next) → if_next block a ≡ if_next block b
+both_next : (block : Block) (a b : Placement) → (a ≡ Next → b ≡ Next) → (b ≡ Next → a ≡ Next)
+    → if_next block a ≡ if_next block b
 both_next block Next b there back = sym (ap (if_next block) (there refl))
 both_next block Known b there back = sym (none_next block b (λ is. cc (back is)))
 both_next block (Not why) b there back = sym (none_next block b (λ is. cc (back is)))
 
 -- The number of blocks and the last digest decide which block is next, as the blocks themselves do.
 module _ (count : ℕ) (last : Digest) (marked : Bool) (stored : List Stored) (count_is : count ≡ length stored) (last_is : last ≡ last_digest (map digest_of (blocks_in stored))) where
-  pub next_same : (bytes : List ℕ) → next_of count last marked bytes ≡ next_in_log marked (blocks_in stored) bytes
+  pub next_same : (bytes : List ℕ)
+      → next_of count last marked bytes ≡ next_in_log marked (blocks_in stored) bytes
   next_same bytes = decoded (block_in bytes)
     where
       long : count ≡ length (blocks_in stored)
       long = count_is ∙ sym (length-map stored (λ s. s.block))
 
-      decoded : (read : Result Block ℕ) → next_decoded (λ marked blocks block. new_placement marked count 0 last block) marked [] read ≡ next_decoded log_placement marked (blocks_in stored) read
+      decoded : (read : Result Block ℕ)
+          → next_decoded (λ marked blocks block. new_placement marked count 0 last block) marked [] read ≡ next_decoded log_placement marked (blocks_in stored) read
       decoded (Err offset) = refl
       decoded (Ok block) =
           both_next block (new_placement marked count 0 last block) (log_placement marked (blocks_in stored) block) (placed_next marked (blocks_in stored) count last block long last_is)
@@ -120,24 +130,28 @@ module _ (count : ℕ) (last : Digest) (marked : Bool) (stored : List Stored) (c
           block (digest_of block) is).1)
 
 -- A next block is placed so by what the log keeps.
-found_next : (count : ℕ) (last : Digest) (marked : Bool) (bytes : List ℕ) (block : Block) → next_of count last marked bytes ≡ Some block → IsNextPlaced marked count 0 last block
+found_next : (count : ℕ) (last : Digest) (marked : Bool) (bytes : List ℕ) (block : Block)
+    → next_of count last marked bytes ≡ Some block → IsNextPlaced marked count 0 last block
 found_next count last marked bytes block is =
     next_is_placed marked count 0 last block
     (is_placed (λ marked blocks block. new_placement marked count 0 last block) marked [] (block_in bytes) block is)
 
 -- A log with the greatest number of blocks has no next one.
-pub has_room : (count : ℕ) (last : Digest) (marked : Bool) (bytes : List ℕ) (block : Block) → next_of count last marked bytes ≡ Some block → count ≢ most_blocks marked
+pub has_room : (count : ℕ) (last : Digest) (marked : Bool) (bytes : List ℕ) (block : Block)
+    → next_of count last marked bytes ≡ Some block → count ≢ most_blocks marked
 has_room count last marked bytes block is = (found_next count last marked bytes block is).room
 
 -- A block that is found is near.
 pub near_next : (gate count size : ℕ) (last : Digest) (marked : Bool) (next : Stored) (bytes : List ℕ) (block : Block) → next ≡ stored_at gate block → next_of count last marked bytes ≡ Some block → IsBlock next.block
-    → count ≤ MAX_MARKED_BLOCKS → (marked ≡ false → IsSmall gate count) → size ≤ MAX_BLOCK_BYTES → IsNear gate count marked next (gate + (5 + size))
+    → count ≤ MAX_MARKED_BLOCKS → (marked ≡ false → IsSmall gate count) → size ≤ MAX_BLOCK_BYTES
+    → IsNear gate count marked next (gate + (5 + size))
 near_next gate count size last marked next bytes block is found lawful few small short =
     let room = room_by marked count few (λ m. (small m).few) (has_room count last marked bytes block found) in
     record {
       lawful = lawful;
       digest_is = ap (λ (s : Stored). s.digest) is ∙ ap digest_of (sym (ap (λ (s : Stored). s.block) is));
       place_is = ap (λ (s : Stored). s.place) is;
+      later = omega arith;
       near = omega (arith, short);
       few = room.0;
       unmarked = λ m. let old = small m in record { few = omega (arith, room.1 m); near = omega (arith, old.near, short) };
@@ -145,15 +159,17 @@ near_next gate count size last marked next bytes block is found lawful few small
     }
 
 -- how often to look at a gate, once more than there are records
-fuel_left : (marked : Bool) (count : ℕ) → count < MAX_MARKED_BLOCKS → MAX_RECORDS + 1 - (count + marks marked) ≡ (MAX_RECORDS + 1 - (count + 1 + marks marked)) + 1
+fuel_left : (marked : Bool) (count : ℕ) → count < MAX_MARKED_BLOCKS
+    → MAX_RECORDS + 1 - (count + marks marked) ≡ (MAX_RECORDS + 1 - (count + 1 + marks marked)) + 1
 fuel_left true count few = omega (arith, few)
 fuel_left false count few = omega (arith, few)
 
 -- One more block was read.
-pub read_more : (old new : Option (List ℕ)) (gate count size after : ℕ) (last : Digest) (marked : Bool) (stored : List Stored) (block : Block) (bytes : List ℕ) → AreRead (log_at gate count last marked) old stored
-    → count ≤ MAX_MARKED_BLOCKS → (marked ≡ false → count ≤ MAX_BLOCKS) → after ≡ gate + (5 + size) → size == 0 ≡ false → next_of count last marked bytes ≡ Some block → IsBlock block → new ≡ old
+pub read_more : (old new : Option (List ℕ)) (gate count size after : ℕ) (last : Digest) (marked : Bool) (stored : List Stored) (block : Block) (bytes : List ℕ) → AreReadTo (log_at gate count last marked) old stored
+    → count ≤ MAX_MARKED_BLOCKS → (marked ≡ false → count ≤ MAX_BLOCKS) → after ≡ gate + (5 + size)
+    → size == 0 ≡ false → next_of count last marked bytes ≡ Some block → IsBlock block → new ≡ old
     → ((image : List ℕ) → old ≡ Some image → (record_of (drop gate image) ≡ records.Open size) × (bytes ≡ take size (drop 5 (drop gate image))))
-    → AreRead (log_at after (count + 1) (digest_of block) marked) new (stored ++ stored_at gate block ∷ [])
+    → AreReadTo (log_at after (count + 1) (digest_of block) marked) new (stored ++ stored_at gate block ∷ [])
 read_more old new gate count size after last marked stored block bytes read few unmarked there low is lawful same found =
     let next : next_in_log marked (blocks_in stored) bytes ≡ Some block = sym (next_same count last marked stored read.held.count_is read.held.last_is bytes) ∙ is in
     let room : count < MAX_MARKED_BLOCKS = (room_by marked count few unmarked (has_room count last marked bytes block is)).0 in
@@ -174,9 +190,10 @@ read_more old new gate count size after last marked stored block bytes read few 
     }
 
 -- The mark was read.
-pub read_mark : (old new : Option (List ℕ)) (gate count after : ℕ) (last : Digest) (stored : List Stored) → AreRead (log_at gate count last false) old stored
-    → count ≤ MAX_MARKED_BLOCKS → after ≡ gate + 5 → new ≡ old → ((image : List ℕ) → old ≡ Some image → record_of (drop gate image) ≡ records.Open 0)
-    → AreRead (log_at after count last true) new stored
+pub read_mark : (old new : Option (List ℕ)) (gate count after : ℕ) (last : Digest) (stored : List Stored) → AreReadTo (log_at gate count last false) old stored
+    → count ≤ MAX_MARKED_BLOCKS → after ≡ gate + 5 → new ≡ old
+    → ((image : List ℕ) → old ≡ Some image → record_of (drop gate image) ≡ records.Open 0)
+    → AreReadTo (log_at after count last true) new stored
 read_mark old new gate count after last stored read few there same found =
     record {
       are_stored = read.are_stored;

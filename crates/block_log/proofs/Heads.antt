@@ -1,5 +1,6 @@
 -- What the head of some bytes says they are, and what opening them as a log yields.
-use Rattle.std.proofs.Common.{◌≡◌, inl, inr, ℕ, zero, suc, ◌+◌, Bool, true, false, List, [], ◌∷◌, length, take, drop, get_or, refl, sym, ◌∙◌, ap, arith}
+use Rattle.std.proofs.Common.{◌≡◌, inl, inr, ℕ, zero, suc, ◌+◌, Bool, true, false, List, [], ◌∷◌}
+use Rattle.std.proofs.Common.{length, take, drop, get_or, refl, sym, ◌∙◌, ap, arith}
 use Rattle.std.specs.Prelude.{nat_lt, nat_le}
 use Rattle.std.proofs.lemmas.Bool.Decides.{nat_tests}
 use Rattle.std.proofs.lemmas.List.{length-take, get_or-take}
@@ -11,7 +12,7 @@ use Rattle.block_log.specs.declared.layout.Stored.{Stored}
 use Rattle.block_log.specs.declared.reading.Head.TheVariants as heads
 use Rattle.block_log.specs.Standing.{Blank, NotALog, is_log, is_blank, records_at, standing}
 use Rattle.block_log.specs.Log.{AreStored, next_in_log}
-use Rattle.block_log.specs.Reader.{AreRead, AreAll, blank_log, log_at}
+use Rattle.block_log.specs.Reader.{AreRead, AreReadTo, reader_at, AreAll, blank_log, log_at}
 use Rattle.block_log.specs.Reading.{head_of}
 
 -- ---- the first nine bytes decide
@@ -45,18 +46,21 @@ head_prefix image =
 -- ---- what the head says
 
 -- A log stands for its records.
-pub log_head : (image : List ℕ) → head_of image ≡ heads.Log → standing next_in_log image ≡ records_at next_in_log (MAX_RECORDS + 1) false FIRST_GATE [] (drop FIRST_GATE image)
+pub log_head : (image : List ℕ) → head_of image ≡ heads.Log
+    → standing next_in_log image ≡ records_at next_in_log (MAX_RECORDS + 1) false FIRST_GATE [] (drop FIRST_GATE image)
 unfolding head_of standing
 log_head image is = elim (cases_Bool (is_log image)) [
   | inl opens ↦ rw opens refl
   | inr shut ↦ absurd (not_log (is_blank image) (get_or image 0 1 == 0) (sym (rw shut refl) ∙ is))
 ]
   where
-    not_log : (blank begun : Bool) → (if blank then heads.Blank begun else heads.Other) ≡ heads.Log → ⊥
+    not_log : (blank begun : Bool) → (if blank then heads.Blank begun else heads.Other) ≡ heads.Log
+        → ⊥
     not_log true begun is = cc is
     not_log false begun is = cc is
 
-pub blank_head : (image : List ℕ) (begun : Bool) → head_of image ≡ heads.Blank begun → (standing next_in_log image ≡ Blank) × (begun ≡ (get_or image 0 1 == 0))
+pub blank_head : (image : List ℕ) (begun : Bool) → head_of image ≡ heads.Blank begun
+    → (standing next_in_log image ≡ Blank) × (begun ≡ (get_or image 0 1 == 0))
 unfolding head_of standing
 blank_head image begun is = elim (cases_Bool (is_log image)) [
   | inl opens ↦ absurd (log_is_other begun (sym (rw opens refl) ∙ is))
@@ -75,7 +79,8 @@ blank_head image begun is = elim (cases_Bool (is_log image)) [
     same : (a b : Bool) → heads.Blank a ≡ heads.Blank b → a ≡ b
     same a b is = cc is
 
-pub other_head : (image : List ℕ) → head_of image ≡ heads.Other → standing next_in_log image ≡ NotALog
+pub other_head : (image : List ℕ) → head_of image ≡ heads.Other
+    → standing next_in_log image ≡ NotALog
 unfolding head_of standing
 other_head image is = elim (cases_Bool (is_log image)) [
   | inl opens ↦ absurd (log_is_other (sym (rw opens refl) ∙ is))
@@ -101,15 +106,25 @@ none_stored = record { chained = λ i s at. absurd (none_at i s at); digests_are
     none_at (suc i) s at = cc at
 
 -- A log of which no block has been read.
-pub first_read : (content : Option (List ℕ)) → ((image : List ℕ) → content ≡ Some image → head_of image ≡ heads.Log) → AreRead (log_at FIRST_GATE 0 no_parent false) content []
+first_read : (content : Option (List ℕ))
+    → ((image : List ℕ) → content ≡ Some image → head_of image ≡ heads.Log)
+    → AreReadTo (log_at FIRST_GATE 0 no_parent false) content []
 first_read content is = record {
   are_stored = none_stored;
   held = record { count_is = refl; last_is = refl; fits = λ unmarked. refl; headless = λ is. refl };
   stands = λ image told. log_head image (is image told);
 }
 
+-- The reader of that, which has read nothing ahead.
+pub just_opened : (content : Option (List ℕ))
+    → ((image : List ℕ) → content ≡ Some image → head_of image ≡ heads.Log)
+    → AreRead (reader_at FIRST_GATE 0 no_parent false []) content []
+just_opened content is = record { read = first_read content is; ahead = λ image told. record { count = 0; is = refl } }
+
 -- No log yet.
-pub blank_started : (content : Option (List ℕ)) (begun : Bool) → ((image : List ℕ) → content ≡ Some image → head_of image ≡ heads.Blank begun) → AreAll (blank_log begun) content []
+pub blank_started : (content : Option (List ℕ)) (begun : Bool)
+    → ((image : List ℕ) → content ≡ Some image → head_of image ≡ heads.Blank begun)
+    → AreAll (blank_log begun) content []
 blank_started content begun is = record {
   are_stored = none_stored;
   held = record { count_is = refl; last_is = refl; fits = λ unmarked. refl; headless = λ is. refl };

@@ -1,5 +1,6 @@
 -- The mark of a log: where it is read, and what a crash leaves while it is written.
-use Rattle.std.proofs.Common.{◌≡◌, ◌⊎◌, inl, inr, ℕ, suc, ◌+◌, ◌-◌, ◌≤◌, ◌<◌, Bool, true, false, List, [], ◌∷◌, ◌++◌, length, drop, refl, sym, ◌∙◌, ap, subst, arith}
+use Rattle.std.proofs.Common.{◌≡◌, ◌⊎◌, inl, inr, ℕ, suc, ◌+◌, ◌-◌, ◌≤◌, ◌<◌, Bool, true, false}
+use Rattle.std.proofs.Common.{List, [], ◌∷◌, ◌++◌, length, drop, refl, sym, ◌∙◌, ap, subst, arith}
 use Rattle.std.specs.Prelude.{Option, Some, MatchBool}
 use Rattle.lc_base.specs.declared.digest.Digest.{Digest}
 use Rattle.lc_io.specs.Disk.{DiskState}
@@ -11,14 +12,18 @@ use Rattle.block_log.specs.declared.layout.TheConstants.{OPEN_GATE, MAX_RECORDS}
 use Rattle.block_log.specs.declared.layout.Stored.{Stored}
 use Rattle.block_log.specs.declared.reading.Record.TheVariants as records
 use Rattle.block_log.specs.Reading.{record_of}
-use Rattle.block_log.specs.Standing.{Holds, Logged, with_mark, Placer, NextBlock, next_block, blocks_in, logged_of, records_at, standing, chain_of}
-use Rattle.block_log.specs.Log.{LogState, marks, next_in_log, IsKeptLog, IsSmall, Agrees, AgreesWithBlocks, AgreesWithBlank, StandsBy, IsOldOrMarked, log_with_mark}
+use Rattle.block_log.specs.Standing.{Holds, Logged, with_mark, Placer, NextBlock, next_block}
+use Rattle.block_log.specs.Standing.{blocks_in, logged_of, records_at, standing, chain_of}
+use Rattle.block_log.specs.Log.{LogState, marks, next_in_log, IsKeptLog, IsSmall, Agrees}
+use Rattle.block_log.specs.Log.{AgreesWithBlocks, AgreesWithBlank, StandsBy, IsOldOrMarked}
+use Rattle.block_log.specs.Log.{log_with_mark}
 use Rattle.block_log.specs.Steps.{synced_write, record_bytes}
-use Rattle.block_log.specs.Reader.{AreRead, IsFound, IfNear, found_mark, log_at}
+use Rattle.block_log.specs.Reader.{AreReadTo, IsFound, IfNear, found_mark, log_at}
 use Rattle.block_log.proofs.Records.{IsLog, log_is}
 use Rattle.block_log.proofs.Stricter.{same_blocks}
 use Rattle.block_log.proofs.Resting.{rests_at, rests_on, told_before}
-use Rattle.block_log.proofs.TornRecords.{mark_opens, within, staged_within, torn_after, torn_gate, written_gate}
+use Rattle.block_log.proofs.TornRecords.{mark_opens, within, staged_within, torn_after, torn_gate}
+use Rattle.block_log.proofs.TornRecords.{written_gate}
 use Rattle.block_log.proofs.Turns.{marked_twice}
 use Rattle.block_log.proofs.Chained.{read_mark}
 
@@ -35,22 +40,25 @@ kept_few log kept = few_by log.is_marked log.count kept.few (λ is. (kept.unmark
 
 -- ---- where it is read
 
-pub some_fuel : (marked : Bool) (count : ℕ) → count ≤ MAX_MARKED_BLOCKS → 0 < MAX_RECORDS + 1 - (count + marks marked)
+pub some_fuel : (marked : Bool) (count : ℕ) → count ≤ MAX_MARKED_BLOCKS
+    → 0 < MAX_RECORDS + 1 - (count + marks marked)
 some_fuel true count few = omega (arith, few)
 some_fuel false count few = omega (arith, few)
 
 -- what a record of length 0 is
-pub zero_found : (old new : Option (List ℕ)) (gate count : ℕ) (last : Digest) (marked : Bool) (stored : List Stored) → AreRead (log_at gate count last marked) old stored → count ≤ MAX_MARKED_BLOCKS → new ≡ old
-    → ((image : List ℕ) → old ≡ Some image → record_of (drop gate image) ≡ records.Open 0) → IsFound new (log_at gate count last marked) stored (found_mark gate marked)
+pub zero_found : (old new : Option (List ℕ)) (gate count : ℕ) (last : Digest) (marked : Bool) (stored : List Stored) → AreReadTo (log_at gate count last marked) old stored → count ≤ MAX_MARKED_BLOCKS → new ≡ old
+    → ((image : List ℕ) → old ≡ Some image → record_of (drop gate image) ≡ records.Open 0)
+    → IsFound new (log_at gate count last marked) stored (found_mark gate marked)
 zero_found old new gate count last true stored read few same found =
     λ image told. let there = sym same ∙ told in read.stands image there ∙ marked_twice next_in_log (MAX_RECORDS + 1 - (count + 1)) gate stored (drop gate image) (omega (arith, few)) (found image there)
 zero_found old new gate count last false stored read few same found =
     read_mark old new gate count (gate + 5) last stored read few refl same found
 
 -- a mark is near
-pub zero_near : (gate count : ℕ) (marked : Bool) → (marked ≡ false → IsSmall gate count) → IfNear gate count marked (found_mark gate marked)
+pub zero_near : (gate count : ℕ) (marked : Bool) → (marked ≡ false → IsSmall gate count)
+    → IfNear gate count marked (found_mark gate marked)
 zero_near gate count true small = tt
-zero_near gate count false small = let s = small refl in record { unmarked = refl; near = omega (arith, s.near) }
+zero_near gate count false small = let s = small refl in record { unmarked = refl; later = omega arith; near = omega (arith, s.near) }
 
 -- ---- what a crash leaves
 
@@ -87,7 +95,9 @@ module _ (log seen : LogState) (same : log ≡ seen) (log_kept : IsKeptLog log) 
     pub at_gate : IsLog next content stored false log.gate
     pub some : 0 < at_gate.left
 
-  unmarked_log : (next : NextBlock) (content : List ℕ) (stored : List Stored) → length stored ≤ MAX_BLOCKS → standing next content ≡ Holds stored false log.gate → Unmarked next content stored
+  unmarked_log : (next : NextBlock) (content : List ℕ) (stored : List Stored)
+      → length stored ≤ MAX_BLOCKS → standing next content ≡ Holds stored false log.gate
+      → Unmarked next content stored
   unmarked_log next content stored few stands =
       let l = log_is next content stored false log.gate stands in
       record { at_gate = l; some = omega (arith, l.count_is, few) }
@@ -95,15 +105,18 @@ module _ (log seen : LogState) (same : log ≡ seen) (log_kept : IsKeptLog log) 
   opens : (next : NextBlock) (content : List ℕ) (stored : List Stored) (u : Unmarked next content stored) → (ys : List ℕ) → records_at next (suc u.at_gate.left) false log.gate stored (OPEN_GATE ∷ (mark_bytes ++ ys)) ≡ Holds stored true (log.gate + 5)
   opens next content stored u = mark_opens next u.at_gate.left log.gate stored u.some
 
-  stands_unmarked : (content : List ℕ) (agrees : AgreesWithBlocks log content) → standing next_in_log content ≡ Holds agrees.stored false log.gate
+  stands_unmarked : (content : List ℕ) (agrees : AgreesWithBlocks log content)
+      → standing next_in_log content ≡ Holds agrees.stored false log.gate
   stands_unmarked content agrees = agrees.stands ∙ ap (λ m. Holds agrees.stored m log.gate) unmarked
 
-  few_stored : (content : List ℕ) (agrees : AgreesWithBlocks log content) → length agrees.stored ≤ MAX_BLOCKS
+  few_stored : (content : List ℕ) (agrees : AgreesWithBlocks log content)
+      → length agrees.stored ≤ MAX_BLOCKS
   few_stored content agrees =
       let small = log_kept.unmarked unmarked in
       omega (arith, small.few, agrees.count_is)
 
-  own : (content : List ℕ) (agrees : AgreesWithBlocks log content) → Unmarked next_in_log content agrees.stored
+  own : (content : List ℕ) (agrees : AgreesWithBlocks log content)
+      → Unmarked next_in_log content agrees.stored
   own content agrees = unmarked_log next_in_log content agrees.stored (few_stored content agrees) (stands_unmarked content agrees)
 
   first_within : (content : List ℕ) → AgreesWithBlocks log content → log.gate + 1 ≤ length content
@@ -111,13 +124,15 @@ module _ (log seen : LogState) (same : log ≡ seen) (log_kept : IsKeptLog log) 
       let u = own content agrees in
       within next_in_log content agrees.stored false log.gate [] (Holds agrees.stored true (log.gate + 5)) u.at_gate (opens next_in_log content agrees.stored u)
 
-  second_within : (content : List ℕ) → AgreesWithBlocks log content → log.gate ≤ length (staged content)
+  second_within : (content : List ℕ) → AgreesWithBlocks log content
+      → log.gate ≤ length (staged content)
   second_within content agrees =
       let u = own content agrees in
       staged_within next_in_log content agrees.stored false log.gate [] (Holds agrees.stored true (log.gate + 5)) u.at_gate (opens next_in_log content agrees.stored u)
 
   -- the log with the mark agrees with the bytes
-  agrees_after : (content : List ℕ) → AgreesWithBlocks log content → AgreesWithBlocks (log_with_mark log) (whole content)
+  agrees_after : (content : List ℕ) → AgreesWithBlocks log content
+      → AgreesWithBlocks (log_with_mark log) (whole content)
   agrees_after content agrees =
       let u = own content agrees in
       record {
@@ -129,7 +144,9 @@ module _ (log seen : LogState) (same : log ≡ seen) (log_kept : IsKeptLog log) 
 
   -- ---- over the disk
 
-  is_blocks : (content : List ℕ) (b : Bool) → b ≡ true → MatchBool b (AgreesWithBlocks log content) (AgreesWithBlank log content) → AgreesWithBlocks log content
+  is_blocks : (content : List ℕ) (b : Bool) → b ≡ true
+      → MatchBool b (AgreesWithBlocks log content) (AgreesWithBlank log content)
+      → AgreesWithBlocks log content
   is_blocks content true is agrees = agrees
   is_blocks content false is agrees = absurd (cc is)
 
@@ -140,22 +157,27 @@ module _ (log seen : LogState) (same : log ≡ seen) (log_kept : IsKeptLog log) 
     rests : Rests state (Agrees log)
     rests = subst (λ log. Rests state (Agrees log)) (sym same) seen_rests
 
-    at : (content : List ℕ) → content_of state ≡ Some content → (state ≡ Some (settled_disk content)) × AgreesWithBlocks log content
+    at : (content : List ℕ) → content_of state ≡ Some content
+        → (state ≡ Some (settled_disk content)) × AgreesWithBlocks log content
     at content told = let r = rests_at (Agrees log) state content rests told in (r.0, is_blocks content log.is_ready ready r.1)
 
     -- the first step, as the code writes it
-    first_is : (mid : Option DiskState) → mid ≡ synced_write (log.gate + 1) five state → mid ≡ synced_write (log.gate + 1) mark_bytes state
+    first_is : (mid : Option DiskState) → mid ≡ synced_write (log.gate + 1) five state
+        → mid ≡ synced_write (log.gate + 1) mark_bytes state
     first_is mid is = is ∙ ap (λ (l : List ℕ). synced_write (log.gate + 1) l state) (sym mark_is)
 
-    pub record_within : (content : List ℕ) → content_of state ≡ Some content → log.gate + 1 ≤ length content
+    pub record_within : (content : List ℕ) → content_of state ≡ Some content
+        → log.gate + 1 ≤ length content
     record_within content told = first_within content (at content told).1
 
-    pub gate_within : (mid : Option DiskState) → mid ≡ synced_write (log.gate + 1) five state → (now : List ℕ) → content_of mid ≡ Some now → log.gate ≤ length now
+    pub gate_within : (mid : Option DiskState) → mid ≡ synced_write (log.gate + 1) five state
+        → (now : List ℕ) → content_of mid ≡ Some now → log.gate ≤ length now
     gate_within mid is now told =
         let before = told_before state mid (log.gate + 1) mark_bytes now (first_is mid is) told in
         subst (λ (l : List ℕ). log.gate ≤ length l) (sym before.2) (second_within before.0 (at before.0 before.1).1)
 
-    pub agrees_then : (mid new : Option DiskState) → mid ≡ synced_write (log.gate + 1) five state → new ≡ synced_write log.gate (OPEN_GATE ∷ []) mid → Rests new (Agrees (log_with_mark log))
+    pub agrees_then : (mid new : Option DiskState) → mid ≡ synced_write (log.gate + 1) five state
+        → new ≡ synced_write log.gate (OPEN_GATE ∷ []) mid → Rests new (Agrees (log_with_mark log))
     agrees_then mid new first second =
         rests_on (λ c. AgreesWithBlocks (log_with_mark log) (bytes_over log.gate (OPEN_GATE ∷ []) c)) (Agrees (log_with_mark log)) log.gate (OPEN_GATE ∷ []) mid new
         (rests_on (Agrees log) (λ c. AgreesWithBlocks (log_with_mark log) (bytes_over log.gate (OPEN_GATE ∷ []) c)) (log.gate + 1) mark_bytes state mid rests (first_is mid first)
@@ -177,26 +199,33 @@ module _ (log seen : LogState) (same : log ≡ seen) (log_kept : IsKeptLog log) 
       u : Unmarked next content stored
       u = unmarked_log next content stored (few_stored content agrees) there.0
 
-      is_old : (c : List ℕ) → standing next c ≡ Holds stored false log.gate → IsOldOrMarked next logged c
+      is_old : (c : List ℕ) → standing next c ≡ Holds stored false log.gate
+          → IsOldOrMarked next logged c
       is_old c is = inl (ap logged_of is ∙ ap Some (sym there.1))
 
-      with_it : (c : List ℕ) → standing next c ≡ Holds stored true (log.gate + 5) → chain_of next c ≡ Some (with_mark logged)
+      with_it : (c : List ℕ) → standing next c ≡ Holds stored true (log.gate + 5)
+          → chain_of next c ≡ Some (with_mark logged)
       with_it c is = ap logged_of is ∙ ap (λ (l : Logged). Some (with_mark l)) (sym there.1)
 
       pub rests_there : state ≡ Some (settled_disk content)
       rests_there = (at content told).0
 
-      pub first_leaves : (c : List ℕ) → Torn (log.gate + 1) (length mark_bytes) content c → IsOldOrMarked next logged c
+      pub first_leaves : (c : List ℕ) → Torn (log.gate + 1) (length mark_bytes) content c
+          → IsOldOrMarked next logged c
       first_leaves c torn = is_old c (torn_after next content stored false log.gate [] (Holds stored true (log.gate + 5)) u.at_gate (opens next content stored u) c torn)
 
-      either : (c : List ℕ) → (standing next c ≡ Holds stored false log.gate) ⊎ (standing next c ≡ Holds stored true (log.gate + 5)) → IsOldOrMarked next logged c
+      either : (c : List ℕ)
+          → (standing next c ≡ Holds stored false log.gate) ⊎ (standing next c ≡ Holds stored true (log.gate + 5)) → IsOldOrMarked next logged c
       either c (inl is) = is_old c is
       either c (inr is) = inr (with_it c is)
 
-      pub second_leaves : (c : List ℕ) → Torn log.gate 1 (staged content) c → IsOldOrMarked next logged c
+      pub second_leaves : (c : List ℕ) → Torn log.gate 1 (staged content) c
+          → IsOldOrMarked next logged c
       second_leaves c torn = either c (torn_gate next content stored false log.gate [] (Holds stored true (log.gate + 5)) u.at_gate (opens next content stored u) c torn)
 
-      pub chain_then : (mid new : Option DiskState) → mid ≡ synced_write (log.gate + 1) five state → new ≡ synced_write log.gate (OPEN_GATE ∷ []) mid → Rests new (λ image. chain_of next image ≡ Some (with_mark logged))
+      pub chain_then : (mid new : Option DiskState) → mid ≡ synced_write (log.gate + 1) five state
+          → new ≡ synced_write log.gate (OPEN_GATE ∷ []) mid
+          → Rests new (λ image. chain_of next image ≡ Some (with_mark logged))
       chain_then mid new first second =
           let all : new ≡ Some (settled_disk (whole content)) = second ∙ ap (synced_write log.gate (OPEN_GATE ∷ [])) (first_is mid first ∙ ap (synced_write (log.gate + 1) mark_bytes) rests_there) in
           subst (λ n. Rests n (λ image. chain_of next image ≡ Some (with_mark logged))) (sym all)

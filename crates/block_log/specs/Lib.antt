@@ -3,4 +3,5 @@ pub mod Log
 pub mod Stricter
 pub mod Steps
 pub mod Reading
+pub mod Ahead
 pub mod Reader

@@ -1,14 +1,17 @@
 -- What a log keeps, and how that agrees with the bytes on the disk.
-use Rattle.std.specs.Prelude.{◌≡◌, ◌⊎◌, ℕ, ◌+◌, ◌*◌, ◌≤◌, ◌==◌, Bool, true, false, MatchBool, List, [], length, map, get_or, take, slice_get, Some, Ok}
+use Rattle.std.specs.Prelude.{◌≡◌, ◌⊎◌, ℕ, ◌+◌, ◌*◌, ◌≤◌, ◌==◌, Bool, true, false, MatchBool, List}
+use Rattle.std.specs.Prelude.{[], length, map, get_or, take, slice_get, Some, Ok}
 use Rattle.lc_base.specs.declared.digest.Digest.{Digest}
 use Rattle.block_codec.specs.Spelling.{IsBlock}
 use Rattle.block_codec.specs.Reading.{block_in}
-use Rattle.block_codec.specs.Placement.{bytes_digest, digest_of, no_parent, last_digest, new_placement, placement_after}
+use Rattle.block_codec.specs.Placement.{bytes_digest, digest_of, no_parent, last_digest}
+use Rattle.block_codec.specs.Placement.{new_placement, placement_after}
 use Rattle.block_codec.specs.Placement.{placement_by_versions, FitsVersions}
 use Rattle.block_codec.specs.declared.limits.TheConstants.{MAX_BLOCKS, MAX_MARKED_BLOCKS}
 use Rattle.block_codec.specs.declared.block.Block.{Block}
 use Rattle.block_codec.specs.declared.placement.Placement.TheVariants.{Next}
-use Rattle.block_log.specs.Standing.{Blank, Holds, Logged, with_block, with_mark, Placer, NextBlock, next_block, blocks_in, standing, chain_of}
+use Rattle.block_log.specs.Standing.{Blank, Holds, Logged, with_block, with_mark, Placer, NextBlock}
+use Rattle.block_log.specs.Standing.{next_block, blocks_in, standing, chain_of}
 use Rattle.block_log.specs.declared.layout.TheConstants.{FIRST_GATE, MAX_RECORD_BYTES}
 use Rattle.block_log.specs.declared.layout.Stored.{Stored}
 
@@ -61,7 +64,8 @@ pub record IsKeptLog (log : LogState) : Type 0 where
   pub few : log.count ≤ MAX_MARKED_BLOCKS
   pub near : log.gate ≤ FIRST_GATE + 5 + log.count * MAX_RECORD_BYTES
   pub unmarked : log.is_marked ≡ false → IsSmall log.gate log.count
-  pub no_block : log.is_ready ≡ false → (log.count ≡ 0) × (log.last ≡ no_parent) × (log.is_marked ≡ false)
+  pub no_block : log.is_ready ≡ false
+      → (log.count ≡ 0) × (log.last ≡ no_parent) × (log.is_marked ≡ false)
 
 -- A log with a head keeps the number of blocks, the digest of the last one, whether there is a mark,
 -- and the closed gate of these bytes.
@@ -89,7 +93,8 @@ Agrees log image = MatchBool log.is_ready (AgreesWithBlocks log image) (AgreesWi
 -- Blocks as they were stored: each is the next one after those before it, as their versions say it,
 -- and has its own digest.
 pub record AreStored (stored : List Stored) : Type 0 where
-  pub chained : (i : ℕ) (s : Stored) → slice_get stored i ≡ Some s → placement_by_versions 0 (take i (blocks_in stored)) s.block ≡ Next
+  pub chained : (i : ℕ) (s : Stored) → slice_get stored i ≡ Some s
+      → placement_by_versions 0 (take i (blocks_in stored)) s.block ≡ Next
   pub digests_are : map (λ s. s.digest) stored ≡ map digest_of (blocks_in stored)
   pub lawful : (i : ℕ) (s : Stored) → slice_get stored i ≡ Some s → IsBlock s.block
 

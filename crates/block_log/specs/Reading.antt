@@ -1,5 +1,6 @@
 -- What the head of a log says, and what is at a gate.
-use Rattle.std.specs.Prelude.{◌≡◌, ℕ, Bool, true, false, ◌&&◌, ◌==◌, nat_le, nat_lt, if◌then◌else◌, List, [], ◌∷◌, length, take, drop, get_or}
+use Rattle.std.specs.Prelude.{◌≡◌, ℕ, Bool, true, false, ◌&&◌, ◌==◌, nat_le, nat_lt, if◌then◌else◌}
+use Rattle.std.specs.Prelude.{List, [], ◌∷◌, length, take, drop, get_or}
 use Rattle.std.specs.Cmp.Lexicographic.{pointwise}
 use Rattle.std.specs.Int.{w32, from_be_bytes}
 use Rattle.block_codec.specs.declared.limits.TheConstants.{MAX_BLOCK_BYTES}
@@ -44,6 +45,12 @@ whole_record (records.Open size) bytes = if nat_lt size (length bytes) then reco
 -- What is at the gate with which some bytes begin.
 unfoldable pub record_of : List ℕ → Record
 record_of bytes = whole_record (gate_of bytes) (drop 5 bytes)
+
+-- Whether there is no whole record.
+abbrev pub is_broken : Record → Bool
+is_broken records.Closed = false
+is_broken records.Broken = true
+is_broken (records.Open size) = false
 
 -- The number of bytes of the block of a record.
 abbrev pub record_size : Record → ℕ

@@ -1,6 +1,8 @@
 -- What the bytes of a log stand for: the chain of its blocks and whether it is marked, or why they
 -- stand for none.
-use Rattle.std.specs.Prelude.{ℕ, zero, suc, ◌+◌, Bool, true, false, not, ◌&&◌, ◌||◌, ◌==◌, nat_le, nat_lt, if◌then◌else◌, List, [], ◌∷◌, ◌++◌, length, map, take, drop, get_or, Option, Some, None, Result, Ok, Err}
+use Rattle.std.specs.Prelude.{ℕ, zero, suc, ◌+◌, Bool, true, false, not, ◌&&◌, ◌||◌, ◌==◌, nat_le}
+use Rattle.std.specs.Prelude.{nat_lt, if◌then◌else◌, List, [], ◌∷◌, ◌++◌, length, map, take, drop}
+use Rattle.std.specs.Prelude.{get_or, Option, Some, None, Result, Ok, Err}
 use Rattle.std.specs.Cmp.Lexicographic.{pointwise}
 use Rattle.std.specs.Int.{w32, from_be_bytes}
 use Rattle.block_codec.specs.Spelling.{Decoder}
@@ -54,7 +56,8 @@ abbrev pub blocks_in : List Stored → List Block
 blocks_in stored = map (λ s. s.block) stored
 
 -- A record counts if its bytes are the next block; `more` continues after it.
-abbrev pub after_record : (ℕ → List Stored → List ℕ → Standing) → ℕ → ℕ → List Stored → List ℕ → Option Block → Standing
+abbrev pub after_record : (ℕ → List Stored → List ℕ → Standing) → ℕ → ℕ → List Stored → List ℕ
+    → Option Block → Standing
 after_record more gate size stored rest None = Damaged stored gate
 after_record more gate size stored rest (Some block) =
     more (gate + 5 + size) (stored ++ record { place = gate; digest = digest_of block; block = block } ∷ []) rest
@@ -71,7 +74,8 @@ is_sized size bytes = nat_le 1 size && nat_le size MAX_BLOCK_BYTES && nat_lt siz
 
 -- What follows the length of a record whose gate, at this offset, is open: it is the mark, or its
 -- bytes are the next block.
-abbrev pub record_at : NextBlock → (Bool → ℕ → List Stored → List ℕ → Standing) → Bool → ℕ → ℕ → List Stored → List ℕ → Standing
+abbrev pub record_at : NextBlock → (Bool → ℕ → List Stored → List ℕ → Standing) → Bool → ℕ → ℕ
+    → List Stored → List ℕ → Standing
 record_at next more marked gate size stored bytes =
     if is_mark marked size bytes then more true (gate + 5) stored bytes
     else (if is_sized size bytes

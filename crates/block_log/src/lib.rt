@@ -1,6 +1,7 @@
 //! A log of blocks on a disk. The gate before a block is opened only after the block is synced.
 #![tactic(auto)]
 
+mod ahead;
 mod appending;
 mod creation;
 mod error;

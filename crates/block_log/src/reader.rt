@@ -1,7 +1,7 @@
 //! Reading the blocks of a log, one after another.
 
 ghost use Rattle.std.specs.{
-  Prelude.{◌≡◌, ℕ, ◌+◌, ◌*◌, ◌^◌, ◌≤◌, ◌<◌, false, List, length, Some, IfOk, IfSome, IsErrOf},
+  Prelude.{◌≡◌, ℕ, ◌+◌, ◌*◌, ◌^◌, ◌≤◌, ◌<◌, false, List, length, take, drop, Option, IfOk, IfSome, IsErrOf},
   Option.{is_some, option_map},
 };
 ghost use Rattle.lc_base.specs.Faults.{HasCause};
@@ -17,13 +17,16 @@ ghost use Rattle.block_log.specs.{
   declared.layout.TheConstants.{FIRST_GATE, MAX_RECORD_BYTES},
   Standing.{if_next},
   Log.{IsSmall},
-  Reader.{AreRead, IsTurn, IsFound, IfBlock, IfNear, found_mark, log_at, next_of, stored_at},
+  Ahead.{IsAhead},
+  Reading.{record_of, record_size},
+  Reader.{AreRead, AreReadTo, IsTurn, IsFound, IsRecordAt, IfBlock, IfNear, found_mark, log_at, next_of, stored_at},
 };
 
+use crate::ahead::Ahead;
 use crate::error::LogError;
 use crate::layout::{MAX_RECORD_BYTES, Stored};
 use crate::log::Log;
-use crate::reading::{PREFIX_BYTES, Record, read_record};
+use crate::reading::{PREFIX_BYTES, Record, is_broken, look_ahead, read_record, record_size};
 use block_codec::{Block, DecodeError, Placement, block_digest, decode, place};
 use disk_model::Disk;
 use lc_base::{Digest, HostError, Memory};
@@ -101,6 +104,56 @@ fn mark_found(gate: u64, marked: bool) -> Found
     }
 }
 
+/// The bytes of the block of a record that is at the gate with which these bytes begin.
+#[tactic(auto, using(crate::proofs::Fronts::body_there))]
+fn body_in(bytes: &[u8], found: Record) -> &[u8]
+    requires there { record_of bytes.now ≡ found }
+    ensures { result.now ≡ take (record_size found) (drop 5 bytes.now) }
+{
+    let size = record_size(found);
+    if size == 0 {
+        return &bytes[..0];
+    }
+    let body = &bytes[PREFIX_BYTES..];
+    &body[..size]
+}
+
+/// What a record at the gate at this offset, whose block has these bytes, is after `count` blocks,
+/// the last of which has the digest `last`, in a log that is marked or isn't.
+fn judge(
+    alloc: Global,
+    gate: u64,
+    count: u32,
+    last: Digest,
+    marked: bool,
+    found: Record,
+    body: &[u8],
+) -> Result<Found, Memory>
+    requires few { count ≤ MAX_MARKED_BLOCKS }
+    requires near { gate ≤ FIRST_GATE + 5 + count * MAX_RECORD_BYTES }
+    requires unmarked { marked ≡ false → IsSmall gate count }
+    requires small { record_size found ≤ MAX_BLOCK_BYTES }
+    ensures found { IfOk result (λ next. (content : Option (List ℕ)) (stored : List Storeds) → AreReadTo (log_at gate count last marked) content stored
+        → IsRecordAt gate found body.now content → IsFound content (log_at gate count last marked) stored next) }
+    ensures near { IfOk result (IfNear gate count marked) }
+{
+    let size = match found {
+        Record::Closed => return Ok(Found::Closed),
+        Record::Broken => return Ok(Found::Broken),
+        Record::Open { size } => size,
+    };
+    if size == 0 {
+        return Ok(mark_found(gate, marked));
+    }
+    match next_stored(alloc, gate, count, last, marked, body)? {
+        Some(next) => Ok(Found::Next {
+            next,
+            after: gate + (PREFIX_BYTES + size) as u64,
+        }),
+        None => Ok(Found::Broken),
+    }
+}
+
 /// Reads, through the buffer, what is at the gate at this offset, after `count` blocks, the last of
 /// which has the digest `last`, in a log that is marked or isn't.
 fn read_next<M: Disk>(
@@ -116,8 +169,8 @@ fn read_next<M: Disk>(
     requires few { count ≤ MAX_MARKED_BLOCKS }
     requires near { gate ≤ FIRST_GATE + 5 + count * MAX_RECORD_BYTES }
     requires unmarked { marked ≡ false → IsSmall gate count }
-    ensures found { IfOk result (λ found. (stored : List Storeds) → AreRead (log_at gate count last marked) (content_of (M.disk machine.old (M.now machine.old))) stored
-        → IsFound (content_of (M.disk machine.new (M.now machine.new))) (log_at gate count last marked) stored found) }
+    ensures found { (content : Option (List ℕ)) → content_of (M.disk machine.old (M.now machine.old)) ≡ content
+        → IfOk result (λ next. (stored : List Storeds) → AreReadTo (log_at gate count last marked) content stored → IsFound content (log_at gate count last marked) stored next) }
     ensures near { IfOk result (IfNear gate count marked) }
     ensures room { length buffer.new ≡ length buffer.old }
     ensures disk { Stays M.now M.disk machine.old machine.new }
@@ -125,37 +178,66 @@ fn read_next<M: Disk>(
     ensures wire_faults { M.wire_faults machine.new ≡ M.wire_faults machine.old }
     ensures cause { HasCause (M.disk_faults machine.old) (M.disk_faults machine.new) (IsErrOf result HostError.Fault) }
 {
-    let size = match read_record(machine, buffer, gate)? {
-        Record::Closed => return Ok(Found::Closed),
-        Record::Broken => return Ok(Found::Broken),
-        Record::Open { size } => size,
-    };
-    if size == 0 {
-        return Ok(mark_found(gate, marked));
-    }
-    match next_stored(alloc, gate, count, last, marked, &buffer[..size])? {
-        Some(next) => Ok(Found::Next {
-            next,
-            after: gate + (PREFIX_BYTES + size) as u64,
-        }),
-        None => Ok(Found::Broken),
-    }
+    let found = read_record(machine, buffer, gate)?;
+    let size = record_size(found);
+    let next = judge(alloc, gate, count, last, marked, found, &buffer[..size])?;
+    Ok(next)
 }
 
-/// The blocks of a log that are still to be read. It holds the bytes of one block, and none of the
-/// blocks that it has returned.
+/// Finds what is at the gate at this offset, after `count` blocks, the last of which has the digest
+/// `last`, in a log that is marked or isn't: in the bytes that are read ahead or, if the record is
+/// too long for these, through the buffer.
+fn find_next<M: Disk>(
+    alloc: Global,
+    machine: &mut M,
+    ahead: &mut Ahead,
+    buffer: &mut [u8],
+    gate: u64,
+    count: u32,
+    last: Digest,
+    marked: bool,
+) -> Result<Found, HostError>
+    requires room { length buffer.old ≡ MAX_RECORD_BYTES }
+    requires few { count ≤ MAX_MARKED_BLOCKS }
+    requires near { gate ≤ FIRST_GATE + 5 + count * MAX_RECORD_BYTES }
+    requires unmarked { marked ≡ false → IsSmall gate count }
+    ensures found { (content : Option (List ℕ)) → content_of (M.disk machine.old (M.now machine.old)) ≡ content → IsAhead gate ahead.old content
+        → IfOk result (λ next. (stored : List Storeds) → AreReadTo (log_at gate count last marked) content stored → IsFound content (log_at gate count last marked) stored next) }
+    ensures ahead { (content : Option (List ℕ)) → content_of (M.disk machine.old (M.now machine.old)) ≡ content → IsAhead gate ahead.old content
+        → IfOk result (λ next. IsAhead gate ahead.new content) }
+    ensures near { IfOk result (IfNear gate count marked) }
+    ensures room { length buffer.new ≡ length buffer.old }
+    ensures disk { Stays M.now M.disk machine.old machine.new }
+    ensures told { M.told machine.new ≡ M.told machine.old }
+    ensures wire_faults { M.wire_faults machine.new ≡ M.wire_faults machine.old }
+    ensures cause { HasCause (M.disk_faults machine.old) (M.disk_faults machine.new) (IsErrOf result HostError.Fault) }
+{
+    let found = look_ahead(machine, ahead, gate)?;
+    if is_broken(found) {
+        ahead.clear();
+        let next = read_next(alloc, machine, buffer, gate, count, last, marked)?;
+        return Ok(next);
+    }
+    let body = body_in(ahead.bytes(), found);
+    let next = judge(alloc, gate, count, last, marked, found, body)?;
+    Ok(next)
+}
+
+/// The blocks of a log that are still to be read. It holds the bytes of one block and some that are
+/// read ahead, and none of the blocks that it has returned.
 #[derive(Drop)]
 pub struct LogReader {
     pub(crate) log: Log,
+    pub(crate) ahead: Ahead,
 }
 
 impl Model for LogReader {
     ghost use Rattle.std.specs.Prelude.{◌≡◌, true, false};
-    ghost use Rattle.block_log.specs.Log.{LogState};
+    ghost use Rattle.block_log.specs.Ahead.{ReaderState};
 
-    ghost Value = { LogState };
+    ghost Value = { ReaderState };
 
-    ghost view = { λ reader. reader.log };
+    ghost view = { λ reader. record { gate = reader.log.gate; count = reader.log.count; last = reader.log.last; is_marked = reader.log.is_marked; ahead = reader.ahead } };
 
     ghost invariant = { λ reader. (reader.log.is_ready ≡ true) × (reader.log.is_begun ≡ false) };
 }
@@ -194,9 +276,11 @@ impl LogReader {
         ensures cause { HasCause (M.disk_faults machine.old) (M.disk_faults machine.new) (IsErrOf result LogError.DiskFault) }
     {
         let mut log = self.log;
-        match read_next(
+        let mut ahead = self.ahead;
+        match find_next(
             alloc,
             machine,
+            &mut ahead,
             &mut log.buffer,
             log.gate,
             log.count,
@@ -205,26 +289,29 @@ impl LogReader {
         )? {
             Found::Closed => Ok(Turn::End { log }),
             Found::Broken => Err(LogError::Damaged { at: log.gate }),
-            Found::Mark { after: gate } => {
-                let reader = LogReader {
-                    log: Log {
-                        gate,
-                        is_marked: true,
-                        ..log
-                    },
+            Found::Mark { after } => {
+                ahead.skip((after - log.gate) as usize);
+                let log = Log {
+                    gate: after,
+                    is_marked: true,
+                    ..log
                 };
-                Ok(Turn::Mark { reader })
+                Ok(Turn::Mark {
+                    reader: LogReader { log, ahead },
+                })
             }
             Found::Next { next, after } => {
-                let reader = LogReader {
-                    log: Log {
-                        gate: after,
-                        count: log.count + 1,
-                        last: next.digest,
-                        ..log
-                    },
+                ahead.skip((after - log.gate) as usize);
+                let log = Log {
+                    gate: after,
+                    count: log.count + 1,
+                    last: next.digest,
+                    ..log
                 };
-                Ok(Turn::Block { next, reader })
+                Ok(Turn::Block {
+                    next,
+                    reader: LogReader { log, ahead },
+                })
             }
         }
     }

@@ -8,9 +8,12 @@ ghost use Rattle.block_codec.specs.declared.limits.TheConstants.{MAX_BLOCK_BYTES
 ghost use Rattle.block_log.specs.{
   declared.layout.TheConstants.{MAX_RECORD_BYTES},
   Standing.{is_log, is_blank},
-  Reading.{has_magic, head_of, sized_record, opened_record, gate_of, record_of, record_size, IsBuffered, IsBody},
+  Ahead.{IsAhead},
+  Reading.{has_magic, head_of, sized_record, opened_record, gate_of, whole_record, record_of, record_size, is_broken, IsBuffered, IsBody},
 };
+ghost use Rattle.block_log.specs.declared.reading.Record.TheVariants as records;
 
+use crate::ahead::Ahead;
 use crate::layout::{CLOSED_GATE, FIRST_GATE, MAGIC, OPEN_GATE};
 use block_codec::MAX_BLOCK_BYTES;
 use disk_model::Disk;
@@ -140,6 +143,73 @@ fn read_gate<M: Disk>(machine: &mut M, at: u64) -> Result<Record, Failed>
     let mut prefix = [0; PREFIX_BYTES];
     let count = machine.read_at(at, &mut prefix)?;
     Ok(gate_in(&prefix[..count]))
+}
+
+/// The number of bytes of the block of a record.
+pub(crate) fn record_size(found: Record) -> usize
+    ensures { result ≡ record_size found }
+{
+    match found {
+        Record::Closed | Record::Broken => 0,
+        Record::Open { size } => size,
+    }
+}
+
+/// Whether there is no whole record.
+pub(crate) fn is_broken(found: Record) -> bool
+    ensures { result ≡ is_broken found }
+{
+    matches!(found, Record::Broken)
+}
+
+/// A record whose block has `size` bytes, if these bytes have as many after its length, and one
+/// more.
+#[tactic(auto, using(crate::proofs::Fronts::rest_after))]
+fn whole_record(size: usize, bytes: &[u8]) -> Record
+    ensures { result ≡ whole_record (records.Open size) (drop 5 bytes.now) }
+{
+    if size < bytes.len().saturating_sub(PREFIX_BYTES) {
+        Record::Open { size }
+    } else {
+        Record::Broken
+    }
+}
+
+/// What is at the gate with which these bytes begin.
+#[tactic(auto, using(crate::proofs::Turns::gate_small), unfolding(crate::specs::Reading::record_of))]
+fn record_in(bytes: &[u8]) -> Record
+    ensures found { result ≡ record_of bytes.now }
+    ensures small { record_size result ≤ MAX_BLOCK_BYTES }
+{
+    match gate_in(bytes) {
+        Record::Closed => Record::Closed,
+        Record::Broken => Record::Broken,
+        Record::Open { size } => whole_record(size, bytes),
+    }
+}
+
+/// What is at the gate at this offset, as far as bytes that are read ahead say it. They are read
+/// again from there on if those that were read before don't say it.
+pub(crate) fn look_ahead<M: Disk>(
+    machine: &mut M,
+    ahead: &mut Ahead,
+    gate: u64,
+) -> Result<Record, Failed>
+    ensures found { IfOk result (λ found. found ≡ record_of ahead.new) }
+    ensures small { IfOk result (λ found. record_size found ≤ MAX_BLOCK_BYTES) }
+    ensures ahead { IsAhead gate ahead.old (content_of (M.disk machine.old (M.now machine.old)))
+        → IfOk result (λ _. IsAhead gate ahead.new (content_of (M.disk machine.old (M.now machine.old)))) }
+    ensures disk { Stays M.now M.disk machine.old machine.new }
+    ensures told { M.told machine.new ≡ M.told machine.old }
+    ensures wire_faults { M.wire_faults machine.new ≡ M.wire_faults machine.old }
+    ensures cause { HasCause (M.disk_faults machine.old) (M.disk_faults machine.new) (IsErr result) }
+{
+    let found = record_in(ahead.bytes());
+    if !is_broken(found) {
+        return Ok(found);
+    }
+    ahead.fill(machine, gate)?;
+    Ok(record_in(ahead.bytes()))
 }
 
 /// Reads the bytes of a record's block, whose gate is at this offset, to the front of the buffer.

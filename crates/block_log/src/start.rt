@@ -7,9 +7,10 @@ ghost use Rattle.disk_model.specs.Disk.{content_of};
 ghost use Rattle.block_codec.specs.Placement.{no_parent};
 ghost use Rattle.block_log.specs.{
   declared.layout.TheConstants.{FIRST_GATE, MAX_RECORD_BYTES},
-  Reader.{IsOpened, blank_log, log_at},
+  Reader.{IsOpened, blank_log, reader_at},
 };
 
+use crate::ahead::{AHEAD_BYTES, Ahead};
 use crate::error::LogError;
 use crate::layout::{FIRST_GATE, MAX_RECORD_BYTES};
 use crate::log::Log;
@@ -38,9 +39,9 @@ fn buffer_of(alloc: Global, count: usize) -> Result<Vec<u8>, Memory>
 }
 
 /// A reader of a log of which no block has been read.
-fn first_reader(buffer: Vec<u8>) -> LogReader
+fn first_reader(buffer: Vec<u8>, ahead: Ahead) -> LogReader
     requires room { length buffer.items ≡ MAX_RECORD_BYTES }
-    ensures { result ≡ log_at FIRST_GATE 0 no_parent false }
+    ensures { result ≡ reader_at FIRST_GATE 0 no_parent false ahead }
 {
     let log = blank_log(buffer, false);
     LogReader {
@@ -48,6 +49,7 @@ fn first_reader(buffer: Vec<u8>) -> LogReader
             is_ready: true,
             ..log
         },
+        ahead,
     }
 }
 
@@ -79,9 +81,10 @@ impl Log {
         ensures cause { HasCause (M.disk_faults machine.old) (M.disk_faults machine.new) (IsErrOf result LogError.DiskFault) }
     {
         let buffer = buffer_of(alloc, MAX_RECORD_BYTES)?;
+        let ahead = Ahead::new(buffer_of(alloc, AHEAD_BYTES)?);
         match read_head(machine)? {
             Head::Log => Ok(Opened::Records {
-                reader: first_reader(buffer),
+                reader: first_reader(buffer, ahead),
             }),
             Head::Blank { is_begun } => Ok(Opened::Blank {
                 log: blank_log(buffer, is_begun),
