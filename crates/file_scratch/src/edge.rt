@@ -1,9 +1,27 @@
 //! The edge over a real file. No contract can name what the file holds, so it is not known.
 
-ghost use Rattle.std.specs.Prelude.{◌≡◌, true, false, None, length, IfOk, OnOk, IsErr, IsOk};
+ghost use Rattle.std.specs.Prelude.{
+  ◌≡◌,
+  ◌⊎◌,
+  ◌≤◌,
+  ◌+◌,
+  true,
+  false,
+  [],
+  None,
+  length,
+  IfOk,
+  OnOk,
+  IsErr,
+  IsOk,
+};
 ghost use Rattle.lc_io.specs.{Streams.{CountsFaults}, Scratch.{HoldsAt, IsKeptAt}};
-ghost use Rattle.file_scratch.specs.FileScratch.{unknown_up_to, PutsAtEnd, ServesUnknown};
+ghost use Rattle.file_scratch.specs.{
+  Gathered.{fits, Writes},
+  FileScratch.{unknown_up_to, len_of, PutsAtEnd, ServesUnknown},
+};
 
+use crate::gathered::Gathered;
 use lc_base::Memory;
 use lc_io::{Failed, Scratch, one_more};
 use std::alloc::Global;
@@ -58,17 +76,28 @@ fn create_named(rt: &HostRuntime, path: &mut String) -> Result<File, Failed> {
     Err(Failed)
 }
 
+/// Writes bytes at a place of the file.
+fn write_at(file: &Option<File>, bytes: &[u8], place: u64) -> Result<(), Failed> {
+    match file {
+        Some(file) => file.write_all_at(bytes, place).map_err(|_| Failed),
+        None => Err(Failed),
+    }
+}
+
 /// A scratch device over a file of its own, to which every put appends. The first call makes the
 /// file, which no other run has, and removes its name, so that nothing is left of it when the
 /// program ends, however it ends. If the system does not let an open file lose its name, the name
 /// stays until the device is closed.
+///
+/// The last bytes that were put are gathered in memory, and written when there is no room for the
+/// next ones, or when one of them is read.
 #[derive(Drop)]
 pub struct FileScratch<'a> {
     rt: &'a HostRuntime,
     path: String,
     file: Option<File>,
     is_named: bool,
-    len: u64,
+    gathered: Gathered,
     faults: u64,
 }
 
@@ -78,7 +107,7 @@ impl<'a> FileScratch<'a> {
     pub fn new(alloc: Global, rt: &'a HostRuntime, folder: &str) -> Result<FileScratch<'a>, Memory>
         ensures file { IfOk result (λ scratch. scratch.file ≡ None) }
         ensures named { IfOk result (λ scratch. scratch.is_named ≡ false) }
-        ensures len { IfOk result (λ scratch. scratch.len ≡ 0) }
+        ensures len { IfOk result (λ scratch. len_of scratch ≡ 0) }
         ensures faults { IfOk result (λ scratch. scratch.faults ≡ 0) }
     {
         Ok(FileScratch {
@@ -86,25 +115,25 @@ impl<'a> FileScratch<'a> {
             path: path_in(alloc, folder)?,
             file: None,
             is_named: false,
-            len: 0,
+            gathered: Gathered::new(alloc)?,
             faults: 0,
         })
     }
 
     /// A device over an open, empty file that nobody else writes.
-    pub fn over(alloc: Global, rt: &'a HostRuntime, file: File) -> FileScratch<'a>
-        ensures named { result.is_named ≡ false }
-        ensures len { result.len ≡ 0 }
-        ensures faults { result.faults ≡ 0 }
+    pub fn over(alloc: Global, rt: &'a HostRuntime, file: File) -> Result<FileScratch<'a>, Memory>
+        ensures named { IfOk result (λ scratch. scratch.is_named ≡ false) }
+        ensures len { IfOk result (λ scratch. len_of scratch ≡ 0) }
+        ensures faults { IfOk result (λ scratch. scratch.faults ≡ 0) }
     {
-        FileScratch {
+        Ok(FileScratch {
             rt,
             path: String::new(alloc),
             file: Some(file),
             is_named: false,
-            len: 0,
+            gathered: Gathered::new(alloc)?,
             faults: 0,
-        }
+        })
     }
 
     /// Removes the name of the file, if it still has one.
@@ -121,7 +150,7 @@ impl<'a> FileScratch<'a> {
     /// if a standard stream was closed when the program started, its descriptor is free and a new
     /// file could get it.
     fn make(&mut self) -> Result<File, Failed>
-        ensures len { self.new.len ≡ self.old.len }
+        ensures gathered { self.new.gathered ≡ self.old.gathered }
         ensures faults { self.new.faults ≡ self.old.faults }
     {
         let file = create_named(self.rt, &mut self.path)?;
@@ -131,7 +160,7 @@ impl<'a> FileScratch<'a> {
 
     /// Makes the file, unless it has been made.
     fn open(&mut self) -> Result<(), Failed>
-        ensures len { self.new.len ≡ self.old.len }
+        ensures gathered { self.new.gathered ≡ self.old.gathered }
         ensures faults { self.new.faults ≡ self.old.faults }
     {
         if self.file.is_none() {
@@ -140,28 +169,68 @@ impl<'a> FileScratch<'a> {
         Ok(())
     }
 
-    /// Appends bytes, and returns their place.
-    fn write(&mut self, bytes: &[u8]) -> Result<u64, Failed>
-        ensures len { PutsAtEnd (length bytes.now) self.old.len self.new.len result }
+    /// Writes what is gathered. If that fails, all of it stays gathered, and a later call tries
+    /// again.
+    fn flush(&mut self) -> Result<(), Failed>
+        ensures gathered { Writes self.old.gathered self.new.gathered result }
         ensures faults { self.new.faults ≡ self.old.faults }
     {
-        let place = self.len;
-        let end = place.checked_add(bytes.len() as u64).ok_or(Failed)?;
-        self.open()?;
-        match &self.file {
-            Some(file) => file.write_all_at(bytes, place).map_err(|_| Failed)?,
-            None => return Err(Failed),
+        write_at(&self.file, self.gathered.bytes(), self.gathered.place())?;
+        self.gathered.flushed();
+        Ok(())
+    }
+
+    /// Writes what is gathered, unless there is room for `count` more bytes.
+    fn make_room(&mut self, count: usize) -> Result<(), Failed>
+        ensures room { IfOk result (λ _. (fits self.new.gathered count ≡ true) ⊎ (self.new.gathered.bytes ≡ [])) }
+        ensures len { len_of self.new ≡ len_of self.old }
+        ensures faults { self.new.faults ≡ self.old.faults }
+    {
+        if self.gathered.fits(count) {
+            return Ok(());
         }
-        self.len = end;
+        self.flush()
+    }
+
+    /// Writes what is gathered, unless the `count` bytes at a place are in the file.
+    fn settle(&mut self, place: u64, count: usize) -> Result<(), Failed>
+        requires put { place + count ≤ len_of self.old }
+        ensures written { IfOk result (λ _. place + count ≤ self.new.gathered.place) }
+        ensures len { len_of self.new ≡ len_of self.old }
+        ensures faults { self.new.faults ≡ self.old.faults }
+    {
+        if self.gathered.is_written(place, count) {
+            return Ok(());
+        }
+        self.flush()
+    }
+
+    /// Appends bytes, and returns their place. More bytes than can be gathered are written at once.
+    fn write(&mut self, bytes: &[u8]) -> Result<u64, Failed>
+        ensures len { PutsAtEnd (length bytes.now) (len_of self.old) (len_of self.new) result }
+        ensures faults { self.new.faults ≡ self.old.faults }
+    {
+        let place = self.gathered.end();
+        let _end = place.checked_add(bytes.len() as u64).ok_or(Failed)?;
+        self.open()?;
+        self.make_room(bytes.len())?;
+        if self.gathered.fits(bytes.len()) {
+            self.gathered.push(bytes);
+        } else {
+            write_at(&self.file, bytes, place)?;
+            self.gathered.pass(bytes.len());
+        }
         Ok(place)
     }
 
     /// Reads the bytes at a place. A file that ends earlier is a fault.
     fn read(&mut self, place: u64, buffer: &mut [u8]) -> Result<(), Failed>
-        ensures len { self.new.len ≡ self.old.len }
+        requires put { place + length buffer.old ≤ len_of self.old }
+        ensures len { len_of self.new ≡ len_of self.old }
         ensures faults { self.new.faults ≡ self.old.faults }
     {
         self.open()?;
+        self.settle(place, buffer.len())?;
         match &self.file {
             Some(file) => file.read_exact_at(buffer, place).map_err(|_| Failed),
             None => Err(Failed),
@@ -170,7 +239,7 @@ impl<'a> FileScratch<'a> {
 }
 
 impl<'a> Scratch for FileScratch<'a> {
-    ghost state = { λ s. unknown_up_to s.len };
+    ghost state = { λ s. unknown_up_to (len_of s) };
 
     ghost scratch_faults = { λ s. s.faults };
 
@@ -178,8 +247,8 @@ impl<'a> Scratch for FileScratch<'a> {
     /// `u64` is a fault.
     fn put(&mut self, bytes: &[u8]) -> Result<u64, Failed>
         ensures serves { ServesUnknown self.old self.new (IsErr result) }
-        ensures put { IfOk result (λ place. IsKeptAt (unknown_up_to self.new.len) place bytes.now) }
-        ensures len { PutsAtEnd (length bytes.now) self.old.len self.new.len result }
+        ensures put { IfOk result (λ place. IsKeptAt (unknown_up_to (len_of self.new)) place bytes.now) }
+        ensures len { PutsAtEnd (length bytes.now) (len_of self.old) (len_of self.new) result }
         ensures faults { CountsFaults self.old.faults self.new.faults result }
     {
         match self.write(bytes) {
@@ -192,10 +261,10 @@ impl<'a> Scratch for FileScratch<'a> {
     }
 
     fn get(&mut self, place: u64, buffer: &mut [u8]) -> Result<(), Failed>
-        requires kept { (unknown_up_to self.old.len).kept place (length buffer.old) ≡ true }
+        requires kept { (unknown_up_to (len_of self.old)).kept place (length buffer.old) ≡ true }
         ensures serves { ServesUnknown self.old self.new (IsErr result) }
-        ensures bytes { OnOk result (HoldsAt (unknown_up_to self.old.len) place buffer.new) }
-        ensures len { self.new.len ≡ self.old.len }
+        ensures bytes { OnOk result (HoldsAt (unknown_up_to (len_of self.old)) place buffer.new) }
+        ensures len { len_of self.new ≡ len_of self.old }
         ensures faults { CountsFaults self.old.faults self.new.faults result }
     {
         match self.read(place, buffer) {

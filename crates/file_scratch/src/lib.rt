@@ -2,5 +2,7 @@
 #![tactic(auto)]
 
 mod edge;
+mod gathered;
 
 pub use edge::FileScratch;
+pub use gathered::GATHERED_BYTES;

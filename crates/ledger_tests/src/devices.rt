@@ -6,8 +6,8 @@ ghost use Rattle.merkle_dag.specs.Lineage.{AgreesWith};
 
 use crate::lineages::{add_block, device, int_at, lineage_of, set};
 use block_codec::TxList;
-use file_scratch::FileScratch;
-use lc_base::{Key, TextList};
+use file_scratch::{FileScratch, GATHERED_BYTES};
+use lc_base::{Key, TextList, zeros};
 use lc_io::{MemScratch, Scratch};
 use lineage_index::Steps;
 use merkle_dag::{Lineage, QueryError};
@@ -21,6 +21,10 @@ const KEYS: u32 = 1_025;
 
 /// The number of the first call after the puts of these bodies.
 const FIRST_GET: u64 = 1_025;
+
+/// How many bytes are put before the bodies: with 1,000 of these, of ten bytes each, as many as are
+/// gathered. So these bodies are in the file once the next one was put.
+const BEFORE: usize = GATHERED_BYTES - 10_000;
 
 /// The file of a device, in the current folder.
 const FILE: &str = "lineage_tests.scratch";
@@ -111,9 +115,11 @@ fn bodies_at_hand_are_not_read(rt: HostRuntime) {
 /// The ints of the first and the last of these keys over a device on this file, in which the first
 /// one was changed.
 fn ints_over<S: Scratch>(alloc: Global, scratch: &mut S, file: &File) -> Option<(i64, i64)> {
+    let before = zeros(alloc, BEFORE).ok()?;
+    scratch.put(&before).ok()?;
     let mut lineage = lineage_of_keys(alloc, scratch)?;
-    // The body of the first row is the first ten bytes of the file; its int ends at the ninth.
-    let is_written = matches!(file.write_at(&[7], 8), Ok(1));
+    // The body of the first row is ten bytes; its int ends at the ninth.
+    let is_written = matches!(file.write_at(&[7], BEFORE as u64 + 8), Ok(1));
     let first = int_of(alloc, &mut lineage, scratch, 0);
     let last = int_of(alloc, &mut lineage, scratch, KEYS - 1);
     lineage.give_up();
@@ -127,7 +133,7 @@ fn ints_over<S: Scratch>(alloc: Global, scratch: &mut S, file: &File) -> Option<
 fn ints_of_changed_file(rt: &HostRuntime) -> Option<(i64, i64)> {
     let file = File::create_new(rt, FILE).ok()?;
     let changed = file.try_clone().ok()?;
-    let mut scratch = FileScratch::over(rt.alloc(), rt, file);
+    let mut scratch = FileScratch::over(rt.alloc(), rt, file).ok()?;
     ints_over(rt.alloc(), &mut scratch, &changed)
 }
 

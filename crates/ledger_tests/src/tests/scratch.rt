@@ -1,7 +1,10 @@
 //! Scratch devices: in memory, and over files.
 
-use file_scratch::FileScratch;
+ghost use Rattle.std.specs.Prelude.{◌≡◌, length, IfSome};
+
+use file_scratch::{FileScratch, GATHERED_BYTES};
 use lc_io::{Failed, MemScratch, Room, Scratch};
+use std::alloc::Global;
 use std::fs;
 use std::fs::File;
 
@@ -56,6 +59,52 @@ fn scratch_file_at_later_places(rt: HostRuntime) {
     assert!(rt; get_later_ones(&rt, &mut second, &mut third) == Ok(()));
     assert!(rt; second == *b"de");
     assert!(rt; third == *b"fghi");
+}
+
+/// As many bytes, each of them this one.
+fn bytes_of(alloc: Global, byte: u8, count: usize) -> Option<Vec<u8>>
+    ensures { IfSome result (λ bytes. length bytes.items ≡ count) }
+{
+    vec![in alloc; byte; count].ok()
+}
+
+/// Puts a text, a body and a text, and gets the body and the last text back.
+fn put_between<S: Scratch>(
+    scratch: &mut S,
+    body: &[u8],
+    got_body: &mut [u8],
+    got_last: &mut [u8; 2],
+) -> Result<(), Failed>
+    requires alike { length got_body.old ≡ length body.now }
+{
+    let _first = scratch.put(b"abc")?;
+    let place = scratch.put(body)?;
+    let last = scratch.put(b"de")?;
+    scratch.get(place, got_body)?;
+    scratch.get(last, got_last)
+}
+
+/// Does so on a device over a file with a body of `count` bytes. Whether both are what was put.
+fn are_got_back(rt: &HostRuntime, count: usize) -> Option<bool> {
+    let body = bytes_of(rt.alloc(), 7, count)?;
+    let mut got_body = bytes_of(rt.alloc(), 0, count)?;
+    let mut got_last = [0; 2];
+    let mut scratch = FileScratch::new(rt.alloc(), rt, ".").ok()?;
+    let done = put_between(&mut scratch, &body, &mut got_body, &mut got_last);
+    let closed = scratch.close();
+    done.ok()?;
+    closed.ok()?;
+    Some(got_body.as_slice() == body.as_slice() && got_last == *b"de")
+}
+
+#[test]
+fn scratch_file_of_gathered_bytes(rt: HostRuntime) {
+    // The body is gathered behind the first text; is gathered once that is written; or is written
+    // by itself.
+    assert!(rt; are_got_back(&rt, GATHERED_BYTES - 3) == Some(true));
+    assert!(rt; are_got_back(&rt, GATHERED_BYTES - 2) == Some(true));
+    assert!(rt; are_got_back(&rt, GATHERED_BYTES) == Some(true));
+    assert!(rt; are_got_back(&rt, GATHERED_BYTES + 1) == Some(true));
 }
 
 /// Puts a text on each of two devices, and then gets both back.
@@ -149,15 +198,18 @@ fn scratch_files_without_names(rt: HostRuntime) {
     assert!(rt; fs::remove_file(&rt, FILE).is_ok());
 }
 
-/// Puts two texts on a device over a file, cuts the file to `len` bytes, and gets the second text.
+/// Puts two texts on a device over a file, gets the first one, so that both are in the file, cuts
+/// the file to `len` bytes, and gets the second text.
 fn get_after_cut<S: Scratch>(
     scratch: &mut S,
     file: &File,
     len: u64,
     got: &mut [u8; 2],
 ) -> Result<(), Failed> {
-    scratch.put(b"abc")?;
+    let first = scratch.put(b"abc")?;
     let second = scratch.put(b"de")?;
+    let mut got_first = [0; 3];
+    scratch.get(first, &mut got_first)?;
     if file.set_len(len).is_err() {
         return Ok(());
     }
@@ -172,7 +224,9 @@ fn get_from_short(rt: &HostRuntime, len: u64, got: &mut [u8; 2]) -> Result<(), F
     let Ok(cut) = file.try_clone() else {
         return Ok(());
     };
-    let mut scratch = FileScratch::over(rt.alloc(), rt, file);
+    let Ok(mut scratch) = FileScratch::over(rt.alloc(), rt, file) else {
+        return Ok(());
+    };
     let done = get_after_cut(&mut scratch, &cut, len, got);
     let _removed = fs::remove_file(rt, SHORT_FILE);
     done
