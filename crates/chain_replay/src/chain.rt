@@ -7,15 +7,18 @@ ghost use Rattle.block_codec.specs.{
   Placement.{digest_of, last_digest},
   declared.block.Block.{Block as Blocks},
 };
+ghost use Rattle.row_walks.specs.root_laws.{Ancestors.{trace_at}, Ranges.{between}};
 ghost use Rattle.chain_exec.specs.Compiled.{compiled_in};
 ghost use Rattle.chain_replay.specs.Chain.{nothing_kept, placement_in, HasRoom, IsAfter, StandsFor};
 
 use crate::replaying::Replay;
 use block_codec::{Block, NO_PARENT, Placement, place};
 use chain_exec::{BlockRun, Checked, run_block};
-use lc_base::{Answer, Digest, DigestList, HostError, Memory, Query, Resources, RowList};
+use lc_base::{
+    Answer, Digest, DigestList, HostError, Key, Memory, Query, Resources, RowList, VersionList,
+};
 use lc_io::Scratch;
-use plain_rows::PlainRows;
+use row_walks::{PlainRows, Trace, range, trace};
 use std::alloc::Global;
 use std::marker::Model;
 use world_state::World;
@@ -87,6 +90,30 @@ impl Chain {
         ensures unchanged { self.new ≡ self.old }
     {
         self.rows.ask(query)
+    }
+
+    /// The newest version of a key in the blocks up to `at` over its rows, with all of its ancestors;
+    /// `None` exactly if there is no such version.
+    pub fn trace(&mut self, alloc: Global, key: &Key, at: u32) -> Result<Option<Trace>, Memory>
+        ensures traced { IfOk result (λ trace. trace ≡ trace_at self.old.rows key.now at) }
+        ensures unchanged { self.new ≡ self.old }
+    {
+        trace(alloc, &mut self.rows, key, at)
+    }
+
+    /// The versions of a key in the blocks from `from` to `to` over its rows, in rising order of
+    /// their blocks.
+    pub fn range(
+        &mut self,
+        alloc: Global,
+        key: &Key,
+        from: u32,
+        to: u32,
+    ) -> Result<VersionList, Memory>
+        ensures versions { IfOk result (λ versions. versions ≡ between self.old.rows key.now from to) }
+        ensures unchanged { self.new ≡ self.old }
+    {
+        range(alloc, &mut self.rows, key, from, to)
     }
 
     /// The digest of the last block, or `NO_PARENT` if the chain has no block.

@@ -1,23 +1,13 @@
--- An answer about dependencies is about the version that a lookup finds.
-use Rattle.std.proofs.Common.{◌≡◌, ℕ, List, Option, Some, None, refl, ap}
-use Rattle.std.specs.Option.{option_map}
+-- An answer about dependencies is about the version that a lookup finds, whatever a body says.
+use Rattle.std.proofs.Common.{ℕ, List, Option, Some, None, ap}
 use Rattle.lc_base.specs.declared.answer.Answer.{Answer}
 use Rattle.lc_base.specs.declared.answer.Kind.TheVariants.{Back}
 use Rattle.lc_base.specs.declared.row.Row.{Row}
 use Rattle.lc_base.specs.History.{latest, scan, answer_of}
 use Rattle.lc_base.specs.Parts.{question}
 use Rattle.prov_query.specs.Bodiless.{IsButForBody}
-use Rattle.root_laws.specs.Ancestors.{deps_of}
-use Rattle.lineage_trace.specs.Finding.{derived_in, derived_of, deps_told, IsButForDeps}
-
-pub derived_told : (rows : List Row) (key : List ℕ) (at : ℕ)
-    → derived_in (scan rows (question Back key at)) ≡ option_map derived_of (latest rows key at)
-derived_told rows key at = go (latest rows key at)
-  where
-    go : (found : Option Row)
-        → derived_in (answer_of rows (question Back key at) found) ≡ option_map derived_of found
-    go None = refl
-    go (Some row) = refl
+use Rattle.row_walks.specs.Finding.{derived_in}
+use Rattle.lineage_trace.specs.Finding.{IsButForDeps}
 
 pub but_for_deps : (rows : List Row) (key : List ℕ) (at : ℕ) (answer : Answer)
     → IsButForBody (scan rows (question Back key at)) answer
@@ -28,7 +18,3 @@ but_for_deps rows key at answer = go (latest rows key at)
         → IsButForDeps found (derived_in answer)
     go None is = ap derived_in is
     go (Some row) is = (is.0, ap derived_in is.1)
-
-pub deps_back : (found : Option Row) → deps_told (option_map derived_of found) ≡ deps_of found
-deps_back None = refl
-deps_back (Some row) = refl

@@ -1,6 +1,3 @@
-pub mod Places
-pub mod InTurn
-pub mod LatestAt
 pub mod Answered
 pub mod Counts
 pub mod OneMore

@@ -33,7 +33,7 @@ use Rattle.root_laws.specs.Ancestors.{trace_at}
 use Rattle.root_laws.proofs.Versions.{IsVersion}
 use Rattle.root_laws.proofs.Enough.{AreWanted, are_wanted, next_wanted}
 use Rattle.root_laws.proofs.Enough.{after_last}
-use Rattle.lineage_trace.proofs.LatestAt.{last_up_to_itself}
+use Rattle.row_walks.proofs.LatestAt.{last_up_to_itself}
 use Rattle.proof_checks.specs.declared.trace_proof.TraceItem.{TraceItem}
 use Rattle.proof_checks.specs.declared.trace_proof.TraceProof.{TraceProof}
 use Rattle.proof_checks.specs.TraceChecks.{start_query}

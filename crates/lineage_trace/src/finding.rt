@@ -13,32 +13,14 @@ ghost use Rattle.prov_query.specs.{
   merkle_dag.Lineage.{AgreesWith, LeavesLineage},
 };
 ghost use Rattle.root_laws.specs.Ancestors.{itself, all_inserted, deps_of};
-ghost use Rattle.lineage_trace.specs.Finding.{derived_in, derived_of, deps_told, IsButForDeps};
+ghost use Rattle.row_walks.specs.Finding.{derived_of};
+ghost use Rattle.lineage_trace.specs.Finding.{IsButForDeps};
 
-use crate::wanted::{Wanted, insert_all};
-use lc_base::{Answer, Dep, DepList, HostError, Key, Kind, Memory, Query};
+use lc_base::{Dep, HostError, Key, Kind, Query};
 use lc_io::Scratch;
 use prov_query::{Lineage, Steps, answer};
+use row_walks::{Derived, Wanted, derived_in, insert_found};
 use std::alloc::Global;
-
-/// A version: the number of its block, and what it was derived from directly.
-#[derive(Drop)]
-pub(crate) struct Derived {
-    pub block: u32,
-    pub deps: DepList,
-}
-
-/// What an answer to a question about dependencies says; `None` if there is no version.
-fn derived_in(answer: Answer) -> Option<Derived>
-    ensures { result ≡ derived_in answer }
-{
-    match answer {
-        Answer::Back { block, deps } => Some(Derived { block, deps }),
-        Answer::Nothing => None,
-        Answer::Hist { .. } => None,
-        Answer::Fwd { .. } => None,
-    }
-}
 
 /// The newest version of a key in the blocks up to `at`; `None` if there is none.
 pub(crate) fn look_up<S: Scratch>(
@@ -69,16 +51,6 @@ pub(crate) fn look_up<S: Scratch>(
     match answer(alloc, lineage, scratch, &query, steps) {
         Ok(told) => Ok(derived_in(told)),
         Err(error) => Err(error),
-    }
-}
-
-/// Inserts what was found.
-fn insert_found(wanted: &mut Wanted, found: &Option<Derived>) -> Result<(), Memory>
-    ensures { OnOk result (wanted.new ≡ all_inserted itself (deps_told found.now) wanted.old) }
-{
-    match found {
-        None => Ok(()),
-        Some(derived) => insert_all(wanted, derived.deps.as_slice()),
     }
 }
 

@@ -8,7 +8,6 @@ mod items;
 mod proving;
 mod reaching;
 mod tracing;
-mod wanted;
 mod writing;
 
 pub use answer_proof::prove;

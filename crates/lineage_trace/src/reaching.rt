@@ -19,10 +19,10 @@ ghost use Rattle.root_laws.specs.{
 ghost use Rattle.lineage_trace.specs.Counting.{RisesUpTo};
 
 use crate::finding::insert_deps_of;
-use crate::wanted::{Wanted, insert_all};
 use lc_base::{Dep, DepList, HostError};
 use lc_io::Scratch;
 use prov_query::{Lineage, Steps};
+use row_walks::{Wanted, insert_all};
 use std::alloc::Global;
 
 /// The dependencies of a row and all that they were derived from, the last version first. There are

@@ -7,7 +7,6 @@ ghost use Rattle.std.specs.Prelude.{
   ◌*◌,
   true,
   length,
-  reverse,
   IfSome,
   IfOk,
   IsErrOf,
@@ -32,20 +31,12 @@ ghost use Rattle.lineage_trace.specs.{
 
 use crate::finding::look_up;
 use crate::reaching::reached;
-use lc_base::{DepList, HostError, Key};
+use lc_base::{HostError, Key};
 use lc_io::Scratch;
 use prov_query::{Lineage, QueryError, Steps};
 use root_laws::{Trace, trace_steps_are_few};
+use row_walks::reversed;
 use std::alloc::Global;
-
-/// The versions in the opposite order.
-fn reversed(versions: DepList) -> DepList
-    ensures { result ≡ reverse versions }
-{
-    let mut versions = versions.into_vec();
-    versions.reverse();
-    DepList::from_vec(versions)
-}
 
 /// The newest version of a key up to `at` over all rows of a lineage, with its ancestors; `None`
 /// exactly if there is no such version. If it is not known which bytes the device holds, nothing is

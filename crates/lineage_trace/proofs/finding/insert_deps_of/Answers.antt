@@ -2,8 +2,8 @@ use Rattle.std.proofs.Common.{◌∙◌, List, ap}
 use Rattle.lc_base.specs.declared.row.Dep.{Dep}
 use Rattle.lc_base.specs.History.{latest}
 use Rattle.root_laws.specs.Ancestors.{all_inserted, itself}
-use Rattle.lineage_trace.specs.Finding.{deps_told}
-use Rattle.lineage_trace.proofs.Answered.{deps_back}
+use Rattle.row_walks.specs.Finding.{deps_told}
+use Rattle.row_walks.proofs.Answered.{deps_back}
 use Rattle.lineage_trace.proofs.finding.insert_deps_of.Goals as goal
 
 pub returns-in_ok-insert_found-in-Ok-clause-wanted :

@@ -1,7 +1,9 @@
 use Rattle.std.proofs.Common.{◌∙◌, ap, subst, sym}
 use Rattle.lc_base.specs.History.{latest}
-use Rattle.lineage_trace.specs.Finding.{derived_in, IsButForDeps}
-use Rattle.lineage_trace.proofs.Answered.{derived_told, but_for_deps}
+use Rattle.row_walks.specs.Finding.{derived_in}
+use Rattle.lineage_trace.specs.Finding.{IsButForDeps}
+use Rattle.row_walks.proofs.Answered.{derived_told}
+use Rattle.lineage_trace.proofs.Answered.{but_for_deps}
 use Rattle.lineage_trace.proofs.finding.look_up.Goals as goal
 
 pub returns-in-Ok-clause-derived : goal.returns-in-Ok-clause-derived

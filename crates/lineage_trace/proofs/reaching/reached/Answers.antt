@@ -14,7 +14,8 @@ use Rattle.root_laws.specs.Ancestors.{itself, all_inserted, deps_of}
 use Rattle.root_laws.specs.AncestorSteps.{steps_of}
 use Rattle.lineage_trace.proofs.Counts.{none_counted, one_counted, rises_found, stays_counted}
 use Rattle.lineage_trace.proofs.Counts.{few_more, few_of_all}
-use Rattle.lineage_trace.proofs.OneMore.{begins, goes_on, counted_so_far, ends, ends_full}
+use Rattle.row_walks.proofs.OneMore.{begins, goes_on, ends, ends_full}
+use Rattle.lineage_trace.proofs.OneMore.{counted_so_far}
 use Rattle.lineage_trace.proofs.reaching.reached.Goals as goal
 
 pub loop-left-init : goal.loop-left-init

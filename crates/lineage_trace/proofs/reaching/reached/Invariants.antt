@@ -6,7 +6,7 @@ use Rattle.entry_store.specs.Steps.{raised_count}
 use Rattle.prov_query.specs.merkle_dag.Ledger.{most_looked_at}
 use Rattle.prov_query.specs.merkle_dag.Lineage.{StaysSame}
 use Rattle.root_laws.specs.AncestorSteps.{steps_of}
-use Rattle.lineage_trace.proofs.OneMore.{IsReaching}
+use Rattle.row_walks.proofs.OneMore.{IsReaching}
 use Rattle.lineage_trace.proofs.reaching.reached.Given as goal
 
 abbrev pub invariant-loop-left : goal.invariant-loop-left

@@ -10,14 +10,15 @@ use Rattle.skip_links.specs.Paths.{path}
 use Rattle.entry_store.specs.Steps.{raised_count}
 use Rattle.prov_query.specs.merkle_dag.Ledger.{most_looked_at}
 use Rattle.root_laws.specs.AncestorSteps.{steps_of, trace_steps}
-use Rattle.lineage_trace.specs.declared.finding.Derived.{Derived}
+use Rattle.row_walks.specs.declared.finding.Derived.{Derived}
 use Rattle.lineage_trace.specs.Counting.{RisesUpTo}
-use Rattle.lineage_trace.specs.Finding.{derived_of, IsButForDeps}
+use Rattle.row_walks.specs.Finding.{derived_of}
+use Rattle.lineage_trace.specs.Finding.{IsButForDeps}
 use Rattle.lineage_trace.proofs.Counts.{then_counted, then_rises, first_rises, all_rises, few_first}
 use Rattle.lineage_trace.proofs.Counts.{steps_reverse}
-use Rattle.lineage_trace.proofs.OneMore.{all_reached}
-use Rattle.lineage_trace.proofs.Whole.{row_of_found, none_traced, traced, all_steps, no_more_steps}
-use Rattle.lineage_trace.proofs.Whole.{none_but, some_but}
+use Rattle.row_walks.proofs.OneMore.{all_reached}
+use Rattle.row_walks.proofs.Whole.{row_of_found, none_traced, traced}
+use Rattle.lineage_trace.proofs.Whole.{all_steps, no_more_steps, none_but, some_but}
 use Rattle.lineage_trace.proofs.tracing.trace_rows.Goals as goal
 
 -- ---- no version

@@ -1,8 +1,8 @@
 use Rattle.std.proofs.Common.{◌∙◌, map, ap}
 use Rattle.root_laws.specs.Ancestors.{inserted, itself}
 use Rattle.root_laws.specs.Places.{Place, version_at}
-use Rattle.lineage_trace.proofs.Places.{put_in}
-use Rattle.lineage_trace.proofs.wanted.Wanted.insert.Goals as goal
+use Rattle.row_walks.proofs.Places.{put_in}
+use Rattle.row_walks.proofs.wanted.Wanted.insert.Goals as goal
 
 pub returns : goal.returns
 returns c =

@@ -11,7 +11,7 @@ use std::marker::Model;
 
 /// Versions, each once: the last one first, by block and in one block by key.
 #[derive(Drop)]
-pub(crate) struct Wanted {
+pub struct Wanted {
     places: BTreeSet<Reverse<(u32, Key)>>,
 }
 
@@ -27,7 +27,7 @@ impl Model for Wanted {
 
 impl Wanted {
     /// No version.
-    pub(crate) fn new(alloc: Global) -> Wanted
+    pub fn new(alloc: Global) -> Wanted
         ensures { result ≡ [] }
     {
         Wanted {
@@ -36,7 +36,7 @@ impl Wanted {
     }
 
     /// Takes the last version out; `None` exactly if there is none.
-    pub(crate) fn take_last(&mut self) -> Option<Dep>
+    pub fn take_last(&mut self) -> Option<Dep>
         ensures { MatchOption result (self.old ≡ []) (λ last. self.old ≡ last ∷ self.new) }
     {
         match self.places.pop_first() {
@@ -55,7 +55,7 @@ impl Wanted {
 }
 
 /// Inserts versions, one after another.
-pub(crate) fn insert_all(wanted: &mut Wanted, versions: &[Dep]) -> Result<(), Memory>
+pub fn insert_all(wanted: &mut Wanted, versions: &[Dep]) -> Result<(), Memory>
     ensures { OnOk result (wanted.new ≡ all_inserted itself versions.now wanted.old) }
 {
     for version in versions {

@@ -1,7 +1,7 @@
 use Rattle.std.proofs.Common.{arith}
 use Rattle.root_laws.specs.Ancestors.{all_inserted, itself}
-use Rattle.lineage_trace.proofs.InTurn.{one_inserted, none_left}
-use Rattle.lineage_trace.proofs.wanted.insert_all.Goals as goal
+use Rattle.row_walks.proofs.InTurn.{one_inserted, none_left}
+use Rattle.row_walks.proofs.wanted.insert_all.Goals as goal
 
 pub loop-version-preserved : goal.loop-version-preserved
 loop-version-preserved c = one_inserted c.args.versions.now c.loop-version.version-index
