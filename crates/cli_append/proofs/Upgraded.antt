@@ -1,27 +1,21 @@
 -- Marking a log: what was printed, and what a crash may leave.
-use Rattle.std.proofs.Common.{◌≡◌, inl, inr, ℕ, Bool, true, false, List, [], ◌∷◌, length, map, refl}
+use Rattle.std.proofs.Common.{◌≡◌, inl, inr, ℕ, Bool, true, false, List, [], ◌∷◌, length, refl}
 use Rattle.std.proofs.Common.{sym, ◌∙◌, ap, subst, arith, eqb, true≢false}
 use Rattle.std.proofs.lemmas.Bool.{cases_Bool, eqb-true, eq-eqb}
-use Rattle.std.proofs.lemmas.List.{length-map}
 use Rattle.std.specs.Prelude.{Option, Some, None, Result, Ok, Err, is_ok, IfOk, IfErr, IsErrOf}
+use Rattle.std.specs.Option.{is_some}
 use Rattle.lc_base.specs.Faults.{HasCause}
-use Rattle.lc_base.specs.declared.digest.Digest.{Digest}
 use Rattle.lc_io.specs.Disk.{DiskState, Stays}
 use Rattle.lc_io.specs.Outside.{Tell}
 use Rattle.disk_model.specs.Disk.{Keeps, Rests, content_of}
 use Rattle.disk_model.proofs.Calls.{stay_keeps}
 use Rattle.disk_model.proofs.Moments.{then_keeps, weaker, stays_here}
-use Rattle.block_codec.specs.Placement.{digest_of}
-use Rattle.block_codec.specs.declared.block.Block.{Block}
 use Rattle.block_codec.specs.Reading.{block_in}
 use Rattle.block_log.specs.Standing.{Logged, with_mark, chain_of, next_block, Placer}
 use Rattle.block_log.specs.Log.{LogState, Agrees, IsOldOrMarked, StandsBy, log_placement}
 use Rattle.block_log.specs.Log.{next_in_log}
 use Rattle.block_log.proofs.Resting.{rests_at, rests_keeps}
-use Rattle.chain_replay.specs.Chain.{ChainState, StandsFor}
-use Rattle.cli_promises.specs.recovery.Node.{NodeState, HoldsChain, IsNodeOf, next_in_chain}
-use Rattle.cli_promises.specs.recovery.Node.{chain_in, logged_in}
-use Rattle.cli_promises.specs.recovery.Node.{stored_placement}
+use Rattle.cli_promises.specs.recovery.Node.{IsLogOf, next_in_chain, chain_in, stored_placement}
 use Rattle.cli_promises.proofs.recovery.Placing.{stricter}
 use Rattle.cli_promises.specs.Promises.{Promise, IsMarked, IsKeptAt, Telling}
 use Rattle.cli_promises.proofs.Tellings.{none_told, still, told_since}
@@ -34,20 +28,34 @@ use Rattle.cli_promises.proofs.Resting.{rests_each}
 
 -- ---- what the log holds before it is marked
 
--- a chain has as many blocks as digests
-pub as_many : (chain : ChainState) (blocks : List Block) → StandsFor chain blocks
-    → length chain.digests ≡ length blocks
-as_many chain blocks is = ap (length {A = Digest}) is.digests_are ∙ length-map blocks digest_of
+-- the bytes of a log stand for its chain, with rows counted
+pub log_at : (log : LogState) (state : Option DiskState) (logged : Logged)
+    → IsLogOf log state logged → Rests state (λ image. chain_in image ≡ Some logged)
+log_at log state logged is = stands_at log logged state is.marked_is is.log
 
--- the bytes of a node's log stand for its chain, with rows counted
-pub stands_by : (node : NodeState) (state : Option DiskState) (blocks : List Block)
-    (content : List ℕ) → IsNodeOf node state blocks → content_of state ≡ Some content
-    → StandsBy stored_placement content (logged_in node.log blocks)
-stands_by node state blocks content is told = record {
+stands_by : (log : LogState) (state : Option DiskState) (logged : Logged) (content : List ℕ)
+    → IsLogOf log state logged → content_of state ≡ Some content
+    → StandsBy stored_placement content logged
+stands_by log state logged content is told = record {
   stricter = stricter;
   stands =
-      (rests_at (HoldsChain node.log blocks) state content is.log told).1.stands;
+      (rests_at (λ image. chain_in image ≡ Some logged) state content (log_at log state logged is)
+      told).1;
 }
+
+-- once it is marked, they stand for the chain with the mark, if the disk is known
+pub marked_at : (log : LogState) (state new : Option DiskState) (logged : Logged)
+    → IsLogOf log state logged → is_some new ≡ is_some state
+    → ((place : Placer) (content : List ℕ) (logged : Logged) → content_of state ≡ Some content
+    → StandsBy place content logged → Rests new
+    (λ image. chain_of (next_block block_in place) image ≡ Some (with_mark logged)))
+    → Rests new (λ image. chain_in image ≡ Some (with_mark logged))
+marked_at log None None logged is still stands = tt
+marked_at log None (Some n) logged is still stands = absurd (cc still)
+marked_at log (Some s) None logged is still stands = tt
+marked_at log (Some s) (Some n) logged is still stands =
+    stands stored_placement s.content logged refl
+    (stands_by log (Some s) logged s.content is refl)
 
 -- by the placement of the log, which counts no row, they stand for what they stand for
 pub stands_by_log : (content : List ℕ) (logged : Logged) → chain_of next_in_log content
@@ -204,18 +212,17 @@ module _ {D T : Type 0} (now : D → ℕ) (disk : D → ℕ → Option DiskState
       (λ m. stays_here now disk old) refl
 
 module _ {D : Type 0} (now : D → ℕ) (disk : D → ℕ → Option DiskState) where
-  -- a crash leaves the chain of a node, marked or as it was, while it is marked
-  pub images_known : (old mid : D) (node : NodeState) (blocks : List Block) → IsNodeOf node
-      (disk old (now old)) blocks
+  -- a crash leaves the chain of a log, marked or as it was, while it is marked
+  pub images_known : (old mid : D) (log : LogState) (logged : Logged) → IsLogOf log
+      (disk old (now old)) logged
       → ((place : Placer) (content : List ℕ) (logged : Logged) → content_of (disk old (now old))
       ≡ Some content → StandsBy place content logged → Keeps now disk old mid
       (IsOldOrMarked (next_block block_in place) logged))
-      → IsKnown (disk old (now old)) → Keeps now disk old mid (IsOldOrMarked next_in_chain
-      (logged_in node.log blocks))
-  images_known old mid node blocks is images is_told =
+      → IsKnown (disk old (now old)) → Keeps now disk old mid (IsOldOrMarked next_in_chain logged)
+  images_known old mid log logged is images is_told =
       let known = content_known (disk old (now old)) is_told in
-      images stored_placement known.0 (logged_in node.log blocks) known.1
-      (stands_by node (disk old (now old)) blocks known.0 is known.1)
+      images stored_placement known.0 logged known.1
+      (stands_by log (disk old (now old)) logged known.0 is known.1)
 
   -- ---- the same by the log alone, with rows not counted
 

@@ -15,7 +15,7 @@ mod turning;
 mod upgrading;
 
 pub use appending::append;
-pub use cli_promises::{Node, RunEnd, RunStop, stored_chain};
+pub use cli_promises::{Node, RunEnd, RunStop, StoredLog, stored_chain, stored_roots};
 pub use following::follow;
 pub use laws::{
     follows_its_leader, frames_are_delivered, inputs_are_delivered, inputs_have_frames,
@@ -23,4 +23,4 @@ pub use laws::{
 };
 pub use starting::start;
 pub use telling::{refuse, tell_line};
-pub use upgrading::upgrade;
+pub use upgrading::{open_log, upgrade};

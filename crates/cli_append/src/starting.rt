@@ -17,13 +17,16 @@ use lc_io::{Failed, Scratch};
 
 /// Syncs a disk, whatever is pending. An earlier run may have ended between a write and its sync,
 /// and without this a loss of power could still take what it wrote.
-fn settle<M: Disk>(machine: &mut M) -> Result<(), Failed>
+pub(crate) fn settle<M: Disk>(machine: &mut M) -> Result<(), Failed>
     // After Ok nothing is pending; after Err the disk is as it was;
     ensures disk { Syncs M.now M.disk machine.old machine.new result }
     ensures settled { IfOk result (λ done. IsSettled (M.disk machine.new (M.now machine.new))) }
-    // and either way it has the content that it had.
+    // either way it has the content that it had, and a crash at any moment leaves what one at entry
+    // could have left.
     ensures content { content_of (M.disk machine.new (M.now machine.new)) ≡ content_of
         (M.disk machine.old (M.now machine.old)) }
+    ensures images { (state : DiskState) → M.disk machine.old (M.now machine.old) ≡ Some state
+        → Keeps M.now M.disk machine.old machine.new (IsImage state) }
     ensures wire { LeavesWire M.told M.wire_faults machine.old machine.new }
     ensures cause { HasCause (M.disk_faults machine.old) (M.disk_faults machine.new) (IsErr result) }
 {

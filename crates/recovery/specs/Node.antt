@@ -126,6 +126,19 @@ abbrev pub IsChainStored : Standing → Result ChainState StartError → Type 0
 IsChainStored stands result = IsStarted (λ chain logged. StandsFor chain logged.blocks) stands
     result
 
+-- ---- a log without its chain
+
+-- A log of these blocks, which is marked exactly if they are: it holds their number, and if the disk
+-- is known, nothing is pending and its content stands for them.
+pub record IsLogOf (held : LogState) (state : Option DiskState) (logged : Logged) : Type 0 where
+  pub count_is : held.count ≡ length logged.blocks
+  pub marked_is : held.is_marked ≡ logged.marked
+  pub log : Rests state (HoldsChain held logged.blocks)
+
+-- The log of the blocks, on this disk, was opened.
+abbrev pub IsLogStored : Option DiskState → Standing → Result LogState StartError → Type 0
+IsLogStored state stands result = IsStarted (λ held. IsLogOf held state) stands result
+
 -- ---- one more block
 
 -- What a crash may leave while bytes with this judgement are taken: the chain from before, or that

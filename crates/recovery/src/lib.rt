@@ -8,9 +8,11 @@ mod no_scratch;
 mod node;
 mod opening;
 mod restoring;
+mod stored_log;
 mod storing;
 mod upgrading;
 
 pub use errors::{AppendError, StartError};
 pub use node::{Appended, Node};
-pub use opening::stored_chain;
+pub use opening::{stored_chain, stored_roots};
+pub use stored_log::StoredLog;

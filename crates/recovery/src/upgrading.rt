@@ -1,4 +1,4 @@
-//! Marking the log of a node: from then on its blocks have the second version.
+//! Marking a log, of a node or by itself: from then on its blocks have the second version.
 
 ghost use Rattle.std.specs.{
   Prelude.{◌≡◌, ℕ, true, false, List, Some, IfOk, IsErr},
@@ -20,7 +20,7 @@ use disk_model::Disk;
 use rooted_chain::Replay;
 
 /// Marks a log. It is created first if the disk has none yet.
-fn mark_log<M: Disk>(log: Log, machine: &mut M) -> Result<Log, DiskFault>
+pub(crate) fn mark_log<M: Disk>(log: Log, machine: &mut M) -> Result<Log, DiskFault>
     requires unmarked { log.is_marked ≡ false }
     requires agrees { Rests (M.disk machine.old (M.now machine.old)) (Agrees log) }
     ensures marked { IfOk result (IsMarkedLog log) }

@@ -43,7 +43,7 @@ loop-log-preserved g c =
           let is = rw c.in-Ok-Ok.field-0-is at
           (c.in-Ok-Ok.ensures.run (λ calls. so_far.retains.known ∙ known calls)
           (blocks_in so_far.stored) (so_far.run known).stands
-          (rw c.marked-marked.ensures.is so_far.read.held.fits) block.digest_is) in
+          (rw c.marked-marked.ensures.is so_far.read.read.held.fits) block.digest_is) in
           one_run so_far.stored (g.C.Replay.kept c.loop-log.chain) (so_far.run known)
           c.marked-marked.result c.in-Block.next (g.C.Replay.kept c.in-Ok-Ok.longer)
           (rw c.marked-marked.ensures.is block.version_is) is.0 is.1;
@@ -85,7 +85,7 @@ run_stored-requires-clause-few g c =
       arith,
       counted,
       as_many,
-      so_far.read.held.count_is,
+      so_far.read.read.held.count_is,
       c.marked-marked.ensures.few,
     ))
 
@@ -115,10 +115,10 @@ returns-in-Ok-Err-clause-restored g c known image told =
     let run = rw c.in-Ok-Err.field-0-is at
     (c.in-Ok-Err.ensures.run (λ calls. so_far.retains.known ∙ known calls)
     (blocks_in so_far.stored) (so_far.run known).stands
-    (rw c.marked-marked.ensures.is so_far.read.held.fits) block.digest_is) in
+    (rw c.marked-marked.ensures.is so_far.read.read.held.fits) block.digest_is) in
     let damaged = not_run so_far.stored (g.C.Replay.kept c.loop-log.chain) (so_far.run known)
     c.marked-marked.result _ c.in-Block.next image _ _ _
-    (rw c.marked-marked.ensures.is block.version_is) run.0 (turn.stands image told) in
+    (rw c.marked-marked.ensures.is block.version_is) run.0 (turn.read.stands image told) in
     (so_far.stored, damaged ∙ ap (Damaged so_far.stored) (sym run.1))
 
 pub returns-in_err-log-clause-restored : goal.returns-in_err-log-clause-restored
