@@ -120,11 +120,14 @@ def is_log(image):
     return len(image) > FIRST_GATE and image.startswith(HEAD)
 
 
+# How many bytes of a log are read ahead at once.
+AHEAD_BYTES = 1 << 16
+
+
 def reads_of(image):
-    """How many reads open it: of the head, and of a log of each record two, of its gate with the length and of what
-    follows, and one of the closed gate."""
-    frames, is_marked = chain_in(image)
-    return 2 + 2 * (len(frames) + is_marked) if is_log(image) else 1
+    """How many reads open it: of the head, and of a log, which is short, one of all that follows."""
+    assert len(image) - FIRST_GATE <= AHEAD_BYTES
+    return 2 if is_log(image) else 1
 
 
 def opened(image, left):

@@ -543,9 +543,9 @@ def stopped_upgrades():
 
 
 # What the disk holds when the call of each number fails in an `upgrade` of a log of one block: it is synced and opened
-# by five calls, as by an `append`.
+# by three calls, as by an `append`.
 FAILED_MARKS = [
-    *[SET_LOG] * 5,
+    *[SET_LOG] * 3,
     # The mark, and its sync.
     SET_LOG,
     SET_LOG + MARK + CLOSED,
@@ -562,8 +562,8 @@ def failing_upgrades():
     tell, marked = len(FAILED_MARKS), log_of(SET_FILE, b"")
     yield LogCase("upgrade", SET_LOG, "", UNTOLD, marked, calls=f"{tell}")
     yield LogCase("upgrade", SET_LOG, upgraded(1), DONE, marked, calls=f"{tell + 1}")
-    # The mark is read as a block is, by two reads: one of its gate and its length, one of the byte that follows.
-    opened = 7
+    # The mark is read with the block.
+    opened = 3
     for call in range(opened):
         yield LogCase("upgrade", marked, "", DISK_FAULT, calls=f"{call}")
     yield LogCase("upgrade", marked, "", UNTOLD, calls=f"{opened}")
@@ -673,9 +673,8 @@ def failing_calls():
         "append", b"", SET_LINE, UNTOLD, two, file, left=len(third), calls=f"{tell + 5}"
     )
     yield LogCase("append", SET_LOG, "", UNREADABLE, file=SET_FILE, left=size, pulls="0")
-    # The disk is synced first. Then, over a log of a block, four reads open it: of the head, of the gate
-    # and the length of the record, of the block, and of the closed gate.
-    opened = 4
+    # The disk is synced first. Then, over a log of a block, two reads open it: of the head, and of what follows.
+    opened = 2
     for call in range(opened + 1):
         yield LogCase(
             "append", SET_LOG, "", DISK_FAULT, file=SET_FILE, left=size, calls=f"{call}"

@@ -49,18 +49,6 @@ def failing_appends():
         yield LogCase("append", image, told, DONE, LOG, FILE, scratch=f"{put}")
 
 
-def failing_upgrades():
-    """The upgrade of the logs of the first blocks with each put failing: nothing is told, and the log isn't marked. It
-    puts each body of the log, also where that is marked already."""
-    for held in range(len(FRAMES) + 1):
-        image, marked = log_of_first(held), log_of(b"".join(FRAMES[:held]), b"")
-        puts = sum(ROWS_OF_BLOCKS[:held])
-        for before, line in [(image, upgraded(held)), (marked, ALREADY)]:
-            for put in range(puts):
-                yield LogCase("upgrade", before, "", SCRATCH_FAULT, scratch=f"{put}")
-            yield LogCase("upgrade", before, line, DONE, marked, scratch=f"{puts}")
-
-
 def small_rooms():
     """The append of the three blocks to an empty disk, with a device that is too small for a body, or for a call."""
     left = [len(FILE) - len(b"".join(FRAMES[: at + 1])) for at in range(len(FRAMES))]
@@ -81,9 +69,9 @@ def with_room(case, room_calls, room_bytes):
 
 
 def failing_questions():
-    """The commands over the log with each call of the device failing. A question about rows makes none; `root`,
-    `trace`, `range`, `light make` and the proofs put each body; and one at an earlier block reads a body of a lineage
-    of the first blocks."""
+    """The commands over the log with each call of the device failing. A question about rows, `trace` and `range` make
+    none; `root`, `light make` and the proofs put each body; and one at an earlier block reads a body of a lineage of
+    the first blocks."""
     rows = len(ROWS)
     digests = block_digests(FRAMES)
     earlier = proof_of(History(ROWS[:1]), digests[0], "hist", "raw/a", 0, 0).hex() + "\n"
@@ -97,9 +85,8 @@ def failing_questions():
     }
     gets = {"prove hist raw/a 0 0": 1, "trace prove raw/a 0 0": 1, "range prove raw/a 0 0 0": 1}
     for words, lines in (QUESTIONS | others).items():
-        made = 0
-        if not words.startswith(("hist", "back", "fwd")):
-            made = rows + gets.get(words, 0)
+        asks_rows = words.startswith(("hist", "back", "fwd", "trace raw", "range raw"))
+        made = 0 if asks_rows else rows + gets.get(words, 0)
         for call in range(made + 1):
             told, status = ("".join(lines), DONE) if call == made else ("", SCRATCH_FAULT)
             yield LogCase(words, LOG, told, status, file=b"x", left=1, pulls="0", scratch=f"{call}")
@@ -156,27 +143,34 @@ def bodies_not_at_hand():
 
 
 def ancestor_not_at_hand():
-    """A version that was derived from one whose body is got where it is read."""
+    """A version that was derived from one whose body is got where it is read: for the proof, and not for the answer."""
     rows = [Row(f"raw/{at}", 0, at, 5, []) for at in range(AT_HAND)] + [Row("raw/x", 1, 0, 5, [("raw/0", 0)])]
-    image = log_of(block_file([[sets(row.key, 5) for row in rows[:-1]], [sets("raw/x", 5, ["raw/0"])]]))
-    told, got = "block 1 ancestors 1\nraw/0 0\n", len(rows)
-    yield LogCase("trace raw/x 1", image, "", SCRATCH_FAULT, scratch=f"{got}")
-    yield LogCase("trace raw/x 1", image, told, scratch=f"{got + 1}")
+    file = block_file([[sets(row.key, 5) for row in rows[:-1]], [sets("raw/x", 5, ["raw/0"])]])
+    image, got = log_of(file), len(rows)
+    proof = trace_proof_of(History(rows), block_digests(frames_of(file))[1], "raw/x", 1, 1).hex() + "\n"
+    yield LogCase("trace raw/x 1", image, "block 1 ancestors 1\nraw/0 0\n", scratch="0")
+    yield LogCase("trace raw/0 1", image, "block 0 ancestors 0\n", scratch="0")
+    yield LogCase("trace prove raw/x 1 1", image, "", SCRATCH_FAULT, scratch=f"{got}")
+    yield LogCase("trace prove raw/x 1 1", image, proof, scratch=f"{got + 1}")
 
 
 def versions_not_at_hand():
-    """Two versions of a key with so many others between them that the body of the first is got where it is read; and
-    where both are asked for by the root at an earlier block, the body of each is."""
+    """Two versions of a key with so many others between them that the body of the first is got where it is read, for
+    the proof and not for the answer; and where both are proved by the root at an earlier block, the body of each is."""
     rows = [Row("raw/x", 0, 0, 5, [])]
     rows += [Row(f"raw/{at}", 1, at, 5, []) for at in range(AT_HAND)] + [Row("raw/x", 2, 0, 6, [])]
     blocks = [[sets("raw/x", 5)], [sets(row.key, 5) for row in rows[1:-1]], [sets("raw/x", 6)], []]
     file = block_file(blocks)
     frames, image = frames_of(file), log_of(file)
-    told, got = "versions 2\nblock 0 tx 0 int 5\nblock 2 tx 0 int 6\n", len(rows)
-    yield LogCase("range raw/x 0 3", image, "", SCRATCH_FAULT, scratch=f"{got}")
-    yield LogCase("range raw/x 0 3", image, told, scratch=f"{got + 1}")
-    yield LogCase("range raw/x 2 3", image, "versions 1\nblock 2 tx 0 int 6\n", scratch=f"{got}")
-    proof = range_proof_of(History(rows), block_digests(frames)[2], "raw/x", 0, 2, 2).hex() + "\n"
+    got, history, digests = len(rows), History(rows), block_digests(frames)
+    yield LogCase("range raw/x 0 3", image, "versions 2\nblock 0 tx 0 int 5\nblock 2 tx 0 int 6\n", scratch="0")
+    yield LogCase("range raw/x 2 3", image, "versions 1\nblock 2 tx 0 int 6\n", scratch="0")
+    whole = range_proof_of(history, digests[3], "raw/x", 0, 3, 3).hex() + "\n"
+    yield LogCase("range prove raw/x 0 3 3", image, "", SCRATCH_FAULT, scratch=f"{got}")
+    yield LogCase("range prove raw/x 0 3 3", image, whole, scratch=f"{got + 1}")
+    late = range_proof_of(history, digests[3], "raw/x", 2, 3, 3).hex() + "\n"
+    yield LogCase("range prove raw/x 2 3 3", image, late, scratch=f"{got}")
+    proof = range_proof_of(history, digests[2], "raw/x", 0, 2, 2).hex() + "\n"
     for call in range(2):
         yield LogCase("range prove raw/x 0 2 2", image, "", SCRATCH_FAULT, scratch=f"{got + call}")
     yield LogCase("range prove raw/x 0 2 2", image, proof, scratch=f"{got + 2}")
@@ -194,12 +188,16 @@ def without_device():
     yield LogCase("scan hist raw/b 2", b"", "block 2 tx 0 int 2\n", file=FILE, scratch="0")
     yield LogCase("fmt", b"", "fn f() {\n}\n", file=b"fn f(){}", scratch="0")
     yield LogCase("pack", b"", "", file=b"[]", scratch="0")
+    for held in range(len(FRAMES) + 1):
+        marked = log_of(b"".join(FRAMES[:held]), b"")
+        yield LogCase("upgrade", log_of_first(held), upgraded(held), DONE, marked, scratch="0")
+        yield LogCase("upgrade", marked, ALREADY, DONE, marked, scratch="0")
 
 
 def scratch_cases():
     """All cases, as tools/cases/log_cases.py gives its own."""
     parts = [
-        failing_appends(), failing_upgrades(), small_rooms(), failing_questions(), failing_expose(), failing_loads(),
+        failing_appends(), small_rooms(), failing_questions(), failing_expose(), failing_loads(),
         bodies_not_at_hand(), ancestor_not_at_hand(), versions_not_at_hand(), without_device(),
     ]
     for part in parts:

@@ -35,7 +35,7 @@ taken_stops : (answer : Result RunEnd RunStop) (stop : RunStop) → run_answer a
 taken_stops (Ok end) stop is = absurd cc
 taken_stops (Err other) stop is = cc
 
-marked_stops : {T : Type 0} (answer : Result T RunStop) (stop : RunStop)
+pub marked_stops : {T : Type 0} (answer : Result T RunStop) (stop : RunStop)
     → upgrade_answer answer ≡ Err stop → answer ≡ Err stop
 marked_stops (Ok done) stop is = absurd cc
 marked_stops (Err other) stop is = cc
@@ -57,11 +57,3 @@ marked_blames answer result stop before mid now is same cause =
     carried before mid now (IsErrOf answer stop) (IsErrOf result stop) same cause
     (λ blames. is ∙ ap upgrade_answer blames)
     (λ blames. marked_stops answer stop (sym is ∙ blames))
-
--- and nobody for what the marking never blames
-pub marked_unblamed : {T : Type 0} (answer : Result T RunStop) (result : Result Ending RunStop)
-    (stop : RunStop) (before now : ℕ) → result ≡ upgrade_answer answer → now ≡ before
-    → (IsErrOf answer stop → ⊥) → HasCause before now (IsErrOf result stop)
-marked_unblamed answer result stop before now is same never =
-    none_blamed before now (IsErrOf result stop) same
-    (λ blames. never (marked_stops answer stop (sym is ∙ blames)))

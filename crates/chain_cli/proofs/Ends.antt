@@ -33,7 +33,9 @@ use Rattle.cli_output.specs.Blocks.{draft_outcome}
 use Rattle.cli_output.specs.Output.{Output, output_of, edition_number, fmt_outcome}
 use Rattle.cli_output.specs.Output.{source_outcome, IsFmtOutput, Long, Source}
 use Rattle.cli_output.specs.Uses.{Use, reads_input, uses_disk, uses_scratch, changes_log, use_of}
-use Rattle.cli_output.specs.Uses.{ChainUse, LogLineage, is_asked, is_log_asked, is_log_changed}
+use Rattle.cli_output.specs.Uses.{ChainUse, NoChain, InputRows, LogRows, LogLineage, LogRoots}
+use Rattle.cli_output.specs.Uses.{MadeLineage, LogAppended, LogMarked, appends_log, is_asked}
+use Rattle.cli_output.specs.Uses.{is_log_asked, is_log_appended, is_log_changed}
 use Rattle.cli_output.specs.Uses.{is_frames, is_whole, keeps_bodies}
 use Rattle.cli_output.specs.Running.{MayEnd, IsSilent, found_no_log}
 use Rattle.cli_output.specs.Scanning.{EndsAsked}
@@ -109,13 +111,14 @@ answer_has_log (Err stops.Memory) = refl
 -- ---- `upgrade`
 
 pub upgrade_ends : {T : Type 0} (answer : Result T RunStop) → (answer ≡ Err stops.Unreadable → ⊥)
+    → (answer ≡ Err stops.ScratchFault → ⊥)
     → MayEnd (status_of_result (upgrade_answer answer)) (Some Upgrade)
-upgrade_ends (Ok done) reads = refl
-upgrade_ends (Err stops.Unreadable) reads = absurd (reads refl)
-upgrade_ends (Err stops.Untold) reads = tt
-upgrade_ends (Err stops.DiskFault) reads = refl
-upgrade_ends (Err stops.ScratchFault) reads = refl
-upgrade_ends (Err stops.Memory) reads = tt
+upgrade_ends (Ok done) reads keeps = refl
+upgrade_ends (Err stops.Unreadable) reads keeps = absurd (reads refl)
+upgrade_ends (Err stops.Untold) reads keeps = tt
+upgrade_ends (Err stops.DiskFault) reads keeps = refl
+upgrade_ends (Err stops.ScratchFault) reads keeps = absurd (keeps refl)
+upgrade_ends (Err stops.Memory) reads keeps = tt
 
 pub upgrade_silent : {T : Type 0} (answer : Result T RunStop) (old mid new : Option (List Tell))
     → mid ≡ old → (answer ≡ Err stops.Unreadable → ⊥) → (answer ≡ Err stops.ScratchFault → ⊥)
@@ -184,6 +187,24 @@ no_log_found now disk told old new (Ok outcome) (Err stop) says none =
 no_log_found now disk told old new (Err stop) result says none = subst
     (λ (r : Result Ending RunStop). found_no_log (status_of_result r) ≡ true) says.stop_is none
 
+-- a command that leaves the log as it is appends no block
+appends_none : (chain : ChainUse) → is_log_appended chain ≡ true → is_log_changed chain ≡ false → ⊥
+appends_none LogAppended is keeps = cc keeps
+appends_none NoChain is keeps = cc is
+appends_none InputRows is keeps = cc is
+appends_none LogRows is keeps = cc is
+appends_none LogLineage is keeps = cc is
+appends_none LogRoots is keeps = cc is
+appends_none MadeLineage is keeps = cc is
+appends_none LogMarked is keeps = cc is
+
+-- nor does `upgrade`
+marks_none : (command : Command) → command ≡ Upgrade → appends_log (Some command) ≡ true → ⊥
+marks_none command same is =
+    let appends : appends_log (Some Upgrade) ≡ true =
+    subst (λ (c : Command). appends_log (Some c) ≡ true) same is in
+    cc appends
+
 -- `append`, `follow` and `upgrade` change the log, and no other command does
 changed_by : (command : Command) → (changes_log (Some command) ≡ false)
     ⊎ ((command ≡ Append) ⊎ ((command ≡ Follow) ⊎ (command ≡ Upgrade)))
@@ -222,34 +243,27 @@ others_keep command appends follows marks = elim (changed_by command) [
   ]
 ]
 
--- what holds for each of the three holds for a command that changes the log
-pub for_changes : (P : Command → Type 0) → P Append → P Follow → P Upgrade → (command : Command)
-    → changes_log (Some command) ≡ true → P command
-for_changes P appends follows marks command changes = elim (changed_by command) [
-  | inl keeps ↦ absurd (cc (changes, keeps))
+-- and of these `upgrade` appends no block: so what holds for the two others holds for a command
+-- that does
+pub for_appends : (P : Command → Type 0) → P Append → P Follow → (command : Command)
+    → appends_log (Some command) ≡ true → P command
+for_appends P appends follows command is = elim (changed_by command) [
+  | inl keeps ↦ absurd (appends_none (use_of (Some command)).chain is keeps)
   | inr other ↦ elim other [
-    | inl is ↦ subst P (sym is) appends
+    | inl same ↦ subst P (sym same) appends
     | inr rest ↦ elim rest [
-      | inl is ↦ subst P (sym is) follows
-      | inr is ↦ subst P (sym is) marks
+      | inl same ↦ subst P (sym same) follows
+      | inr same ↦ absurd (marks_none command same is)
     ]
   ]
 ]
-
--- so one that takes no frames marks the log
-abbrev MarksElse : Command → Type 0
-MarksElse command = (command ≡ Append → ⊥) → (command ≡ Follow → ⊥) → command ≡ Upgrade
-
-pub marks_log : (command : Command) → changes_log (Some command) ≡ true → MarksElse command
-marks_log = for_changes MarksElse (λ appends follows. absurd (appends refl))
-    (λ appends follows. absurd (follows refl)) (λ appends follows. refl)
 
 -- they use the disk and the scratch device
 abbrev UsesBoth : Command → Type 0
 UsesBoth command = (uses_disk (Some command) ≡ true) × (uses_scratch (Some command) ≡ true)
 
-pub uses_both : (command : Command) → changes_log (Some command) ≡ true → UsesBoth command
-uses_both = for_changes UsesBoth (refl, refl) (refl, refl) (refl, refl)
+pub uses_both : (command : Command) → appends_log (Some command) ≡ true → UsesBoth command
+uses_both = for_appends UsesBoth (refl, refl) (refl, refl)
 
 -- a load that words can spell is of a number of blocks that may be made
 pub is_count : (command : Command) (generation : Generation) → command ≡ Load generation
@@ -275,11 +289,6 @@ lineage_ends found command given is uses ends reads =
     (λ e. absurd (reads e)) (λ e. disk) (λ e. ap keeps_bodies uses))
 
 -- the first block of a range that words can spell isn't after the last one
-pub in_order : (command : Command) (key : List ℕ) (from to : ℕ) → command ≡ Range key from to
-    → CanBeGiven command → from ≤ to
-in_order command key from to is given =
-    let can : CanBeGiven (Range key from to) = subst CanBeGiven is given in can.1.in_order
-
 pub proved_in_order : (command : Command) (key : List ℕ) (from to root_at : ℕ)
     → command ≡ ProveRange key from to root_at → CanBeGiven command → from ≤ to
 proved_in_order command key from to root_at is given =

@@ -45,7 +45,8 @@ plain_texts (line ∷ lines) = ap (λ (others : List (List ℕ)). line ∷ other
 
 -- ---- the text of functions that are well kinded
 
-told_again : (edition : ℕ) (input : List ℕ) (functions : List FunctionTree) → ReadsAs edition input functions
+told_again : (edition : ℕ) (input : List ℕ) (functions : List FunctionTree)
+    → ReadsAs edition input functions
     → check_fault functions ≡ None → FitsInput (contract_text functions)
     → IsFmtOutput edition (contract_text functions) (output_of (outcome_with (lines_of (contract_text functions)) endings.Done) [])
 told_again edition input functions reads good fits =
@@ -59,16 +60,19 @@ told_again edition input functions reads good fits =
 by_fault : (edition : ℕ) (input : List ℕ) (functions : List FunctionTree) (fault : Option Fault)
     → ReadsAs edition input functions → check_fault functions ≡ fault
     → (output_of (fmt_outcome functions fault) []).status ≡ statuses.Done
-    → FitsInput (told_bytes (output_of (fmt_outcome functions fault) [])) → IsFmtOutput edition (told_bytes (output_of (fmt_outcome functions fault) [])) (output_of (fmt_outcome functions fault) [])
+    → FitsInput (told_bytes (output_of (fmt_outcome functions fault) []))
+    → IsFmtOutput edition (told_bytes (output_of (fmt_outcome functions fault) [])) (output_of (fmt_outcome functions fault) [])
 by_fault edition input functions (Some fault) reads e done fits = absurd cc
 by_fault edition input functions None reads e done fits =
     let lines : List (List ℕ) = lines_of (contract_text functions) in
     let text : told_bytes (output_of (outcome_with lines endings.Done) []) ≡ contract_text functions = ap concat (plain_texts lines) ∙ text_joined (contract_text functions) in
     subst (λ (t : List ℕ). IsFmtOutput edition t (output_of (outcome_with (lines_of (contract_text functions)) endings.Done) [])) (sym text) (told_again edition input functions reads e (subst FitsInput text fits))
 
-by_outcome : (edition : ℕ) (input : List ℕ) (outcome : SourceOutcome) → IsOutcome edition input outcome
+by_outcome : (edition : ℕ) (input : List ℕ) (outcome : SourceOutcome)
+    → IsOutcome edition input outcome
     → (output_of (source_outcome outcome) []).status ≡ statuses.Done
-    → FitsInput (told_bytes (output_of (source_outcome outcome) [])) → IsFmtOutput edition (told_bytes (output_of (source_outcome outcome) [])) (output_of (source_outcome outcome) [])
+    → FitsInput (told_bytes (output_of (source_outcome outcome) []))
+    → IsFmtOutput edition (told_bytes (output_of (source_outcome outcome) [])) (output_of (source_outcome outcome) [])
 by_outcome edition input (Ok functions) reads done fits = by_fault edition input functions (check_fault functions) reads refl done fits
 by_outcome edition input (Err fault) is done fits = absurd cc
 

@@ -72,7 +72,8 @@ pub record IsGenerating {D : Type 0} (now : D → ℕ) (disk : D → ℕ → Opt
   pub within : gen.given ≤ count
   pub is_parent : parent ≡ (first_blocks seed gen.given).parent
   pub stays : Stays now disk first machine
-  pub lines : (next : NextBlock) → Telling next now disk told first machine (map plain (frames_of gen.given seed)) true
+  pub lines : (next : NextBlock)
+      → Telling next now disk told first machine (map plain (frames_of gen.given seed)) true
 
 -- what it says of the generator that it makes a block next
 record GivesNext (seed count : ℕ) (gen more : Progress) (block : List ℕ) : Type 0 where
@@ -94,7 +95,9 @@ none_framed seed = refl
 
 module _ {D : Type 0} (now : D → ℕ) (disk : D → ℕ → Option DiskState) (told : D → Option (List Tell)) where
   -- no frame was printed yet
-  pub begins : (first : D) (seed count : ℕ) (gen : Progress) (parent : Digest) → gen ≡ progress seed count 0 → first_blocks seed 0 ≡ none_made seed → parent ≡ no_parent → IsGenerating now disk told first first seed count gen parent
+  pub begins : (first : D) (seed count : ℕ) (gen : Progress) (parent : Digest)
+      → gen ≡ progress seed count 0 → first_blocks seed 0 ≡ none_made seed → parent ≡ no_parent
+      → IsGenerating now disk told first first seed count gen parent
   begins first seed count gen parent start none is =
       let given_is : gen.given ≡ 0 = ap (λ (p : Progress). p.given) start in
       record {
@@ -107,7 +110,8 @@ module _ {D : Type 0} (now : D → ℕ) (disk : D → ℕ → Option DiskState) 
       }
 
   gives_next : (first machine : D) (seed count : ℕ) (gen more : Progress) (parent : Digest) (block : List ℕ) → IsGenerating now disk told first machine seed count gen parent
-      → Some (block, more) ≡ next_block gen parent → ((s : ℕ) → gen ≡ progress s gen.count gen.given → parent ≡ (first_blocks s gen.given).parent → GoesOn s gen (Some (block, more))) → GivesNext seed count gen more block
+      → Some (block, more) ≡ next_block gen parent
+      → ((s : ℕ) → gen ≡ progress s gen.count gen.given → parent ≡ (first_blocks s gen.given).parent → GoesOn s gen (Some (block, more))) → GivesNext seed count gen more block
   gives_next first machine seed count gen more parent block is found goes_on =
       let count_is : gen.count ≡ count = ap (λ (p : Progress). p.count) is.is_progress in
       let some : eqb gen.given gen.count ≡ false = not_all (eqb gen.given gen.count) (block, more) gen (Some (given_block gen (block_drawn gen.given parent gen.state))) refl found in
@@ -118,17 +122,21 @@ module _ {D : Type 0} (now : D → ℕ) (disk : D → ℕ → Option DiskState) 
       }
 
   -- some frames were printed, and others were not
-  pub prefix_told : (first machine : D) (seed count : ℕ) (gen : Progress) (parent : Digest) → IsGenerating now disk told first machine seed count gen parent
-      → (next : NextBlock) → Telling next now disk told first machine (map plain (frames_of count seed)) false
+  pub prefix_told : (first machine : D) (seed count : ℕ) (gen : Progress) (parent : Digest)
+      → IsGenerating now disk told first machine seed count gen parent
+      → (next : NextBlock)
+      → Telling next now disk told first machine (map plain (frames_of count seed)) false
   prefix_told first machine seed count gen parent is next =
       let split = frames_split seed gen.given count is.within in
       subst (λ (pieces : List (List ℕ)). Telling next now disk told first machine (map plain pieces) false) (sym split.1) (plain_cut now disk told next first machine (frames_of gen.given seed) split.0 true (is.lines next))
 
   -- one more block
   pub next_told : (first before after : D) (seed count : ℕ) (gen more : Progress) (parent digest : Digest) (block piece hashed : List ℕ)
-      → IsGenerating now disk told first before seed count gen parent → Some (block, more) ≡ next_block gen parent
+      → IsGenerating now disk told first before seed count gen parent
+      → Some (block, more) ≡ next_block gen parent
       → ((s : ℕ) → gen ≡ progress s gen.count gen.given → parent ≡ (first_blocks s gen.given).parent → GoesOn s gen (Some (block, more)))
-      → piece ≡ block → hashed ≡ block → digest ≡ bytes_digest hashed → Stays now disk before after → ((next : NextBlock) → Telling next now disk told before after (plain (frame piece) ∷ []) true)
+      → piece ≡ block → hashed ≡ block → digest ≡ bytes_digest hashed → Stays now disk before after
+      → ((next : NextBlock) → Telling next now disk told before after (plain (frame piece) ∷ []) true)
       → IsGenerating now disk told first after seed count more digest
   next_told first before after seed count gen more parent digest block piece hashed is found on piece_is hashed_is digest_is stays tells =
       let gives = gives_next first before seed count gen more parent block is found on in
@@ -147,10 +155,13 @@ module _ {D : Type 0} (now : D → ℕ) (disk : D → ℕ → Option DiskState) 
 
   -- a frame that was not printed whole
   pub last_told : (first before after : D) (seed count : ℕ) (gen more : Progress) (parent : Digest) (block piece : List ℕ)
-      → IsGenerating now disk told first before seed count gen parent → Some (block, more) ≡ next_block gen parent
+      → IsGenerating now disk told first before seed count gen parent
+      → Some (block, more) ≡ next_block gen parent
       → ((s : ℕ) → gen ≡ progress s gen.count gen.given → parent ≡ (first_blocks s gen.given).parent → GoesOn s gen (Some (block, more)))
-      → piece ≡ block → Stays now disk before after → ((next : NextBlock) → Telling next now disk told before after (plain (frame piece) ∷ []) false)
-      → (next : NextBlock) → Telling next now disk told first after (map plain (frames_of count seed)) false
+      → piece ≡ block → Stays now disk before after
+      → ((next : NextBlock) → Telling next now disk told before after (plain (frame piece) ∷ []) false)
+      → (next : NextBlock)
+      → Telling next now disk told first after (map plain (frames_of count seed)) false
   last_told first before after seed count gen more parent block piece is found on piece_is stays tells next =
       let gives = gives_next first before seed count gen more parent block is found on in
       let grows : frames_of (gen.given + 1) seed ≡ frames_of gen.given seed ++ frame block ∷ [] = ap (map frame) gives.goes_on.0 ∙ map_push frame (blocks_of_seed gen.given seed) block in

@@ -6,6 +6,7 @@ pub mod Formatted
 pub mod Runs
 pub mod LogRuns
 pub mod Asked
+pub mod Rewound
 pub mod Blames
 pub mod Ends
 pub mod Moments

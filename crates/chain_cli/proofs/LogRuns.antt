@@ -11,7 +11,7 @@ use Rattle.disk_model.proofs.Moments.{then_keeps, weaker, stays_on}
 use Rattle.block_codec.specs.Reading.{block_in}
 use Rattle.block_codec.specs.declared.block.Block.{Block}
 use Rattle.block_codec.specs.declared.limits.TheConstants.{MAX_FRAMES}
-use Rattle.block_log.specs.Log.{IsOldOrMarked}
+use Rattle.block_log.specs.Log.{LogState, IsOldOrMarked}
 use Rattle.block_log.specs.Standing.{Standing, Blank, NotALog, Damaged, Holds, Logged, blocks_in}
 use Rattle.block_log.specs.Standing.{nothing_logged, logged_of, with_blocks, with_mark, chain_of}
 use Rattle.block_log.specs.Standing.{standing}
@@ -21,7 +21,7 @@ use Rattle.chain_replay.specs.Chain.{placement_by_mark}
 use Rattle.chain_replay.specs.Judging.{added_by_all}
 use Rattle.chain_input.specs.Folding.{Fold, FoldEnd, fold_from}
 use Rattle.cli_append.specs.recovery.Node.{NodeState, IsNodeOf, IsNodeStarted, IsNoStart}
-use Rattle.cli_append.specs.recovery.Node.{next_in_chain, logged_in}
+use Rattle.cli_append.specs.recovery.Node.{IsLogOf, IsLogStored, next_in_chain, logged_in}
 use Rattle.cli_append.specs.recovery.declared.errors.StartError.{StartError}
 use Rattle.cli_append.specs.cli_promises.Promises.{Line, Appends, Marks, Telling, IsPartly}
 use Rattle.cli_append.specs.cli_promises.Promises.{MayLeave}
@@ -41,8 +41,9 @@ use Rattle.cli_append.specs.cli_promises.Following.{follow_lines}
 use Rattle.cli_words.specs.declared.words.Command.{Command}
 use Rattle.cli_words.specs.declared.words.Command.TheVariants.{Append, Follow, Upgrade}
 use Rattle.cli_output.specs.Output.{Output, output_of, upgrade_output, on_log, fold_ending, Wants}
-use Rattle.cli_output.specs.Uses.{changes_log, reads_input, uses_disk, uses_scratch}
-use Rattle.cli_output.specs.Running.{came_to_end, leaves, is_no_change, Meets, IsGiven, IsRun}
+use Rattle.cli_output.specs.Uses.{appends_log, reads_input, uses_disk, uses_scratch}
+use Rattle.cli_output.specs.Running.{came_to_end, leaves, is_no_change, Meets, IsGiven}
+use Rattle.cli_output.specs.Running.{HeldIsGiven, IsRun}
 use Rattle.cli_output.specs.Telling.{status_of_result, run_answer, upgrade_answer, Tells}
 use Rattle.cli_output.specs.Telling.{stop_of_outcome, start_outcome}
 use Rattle.cli_output.specs.declared.stop.OutcomeStop.{OutcomeStop}
@@ -50,7 +51,7 @@ use Rattle.cli_output.proofs.Found.{left_given}
 use Rattle.cli_output.proofs.Meets.{ending_ends, stop_stops, told_input, left_same, left_read}
 use Rattle.cli_output.proofs.Meets.{rests_given, on_log_blocks, on_log_is, is_on_no_log}
 use Rattle.cli_output.proofs.Meets.{content_stays, quiet_images, said_met, silent_met, says_since}
-use Rattle.chain_cli.proofs.Ends.{for_changes}
+use Rattle.chain_cli.proofs.Ends.{for_appends}
 use Rattle.chain_cli.proofs.Moments.{started_chain}
 
 -- ---- what is known
@@ -220,7 +221,7 @@ module _ {D : Type 0} (now : D → ℕ) (disk : D → ℕ → Option DiskState)
       (record { stop_is = says.stop_is; silent = says.silent ∙ same })
 
   refused_by : (command : Option Command) (over : List ℕ → Logged → Output)
-      → uses_scratch command ≡ true → uses_disk command ≡ true
+      → uses_disk command ≡ true
       → ((input content : List ℕ) → Wants block_in compiled_in command input content
       (on_log (over input) input (standing next_in_chain content)))
       → ((input content c : List ℕ) → c ≡ content → MayLeave next_in_chain content
@@ -228,13 +229,14 @@ module _ {D : Type 0} (now : D → ℕ) (disk : D → ℕ → Option DiskState)
       → (old mid new : D) (error : StartError) (found : Result Outcome OutcomeStop)
       (result : Result Ending RunStop) (left : Option (List ℕ)) (held : Bool)
       → IsSettled (disk old (now old)) → Stays now disk old mid → told mid ≡ told old
-      → (held ≡ true → (content : List ℕ) → content_of (disk old (now old)) ≡ Some content
+      → (HeldIsGiven held command → (content : List ℕ)
+      → content_of (disk old (now old)) ≡ Some content
       → IsNoStart (standing next_in_chain content) error)
       → IfOk found (λ outcome. start_outcome error ≡ Ok outcome) → Stays now disk mid new
       → Tells next_in_chain now disk told mid new found result
       → IsRun now disk told old new (status_of_result result) left left held block_in compiled_in
       command
-  refused_by command over uses needs wanted leads old mid new error found result left held settled
+  refused_by command over needs wanted leads old mid new error found result left held settled
       begins same started is stays says heard input content given_input given =
       let here = told_input (content_of (disk old (now old))) content
       (subst (λ (b : Bool). IsGiven b (content_of (disk old (now old))) content) needs given) in (
@@ -242,7 +244,7 @@ module _ {D : Type 0} (now : D → ℕ) (disk : D → ℕ → Option DiskState)
         wanted input content,
         refused_met (over input) old mid new error found result left input content
             (rests_given (uses_disk command) (disk old (now old)) content settled given) begins same
-            (started (heard uses) content here) is stays says
+            (started heard content here) is stays says
             (left_given (reads_input command) left input given_input) (leads input content),
       )
 
@@ -256,10 +258,12 @@ module _ {D : Type 0} (now : D → ℕ) (disk : D → ℕ → Option DiskState)
       → Tells next_in_chain now disk told mid new found result
       → IsRun now disk told old new (status_of_result result) left left held block_in compiled_in
       command
-  refused_taking command taking takes = refused_by command (taken taking) takes.keeps takes.needs
-      takes.wanted (taken_may_leave taking)
+  refused_taking command taking takes old mid new error found result left held settled begins same
+      started =
+      refused_by command (taken taking) takes.needs takes.wanted (taken_may_leave taking) old mid
+      new error found result left held settled begins same (λ heard. started (heard takes.keeps))
 
-  pub refused_run : (command : Command) → changes_log (Some command) ≡ true → (old mid new : D)
+  pub refused_run : (command : Command) → appends_log (Some command) ≡ true → (old mid new : D)
       (error : StartError) (found : Result Outcome OutcomeStop) (result : Result Ending RunStop)
       (left : Option (List ℕ)) (held : Bool) → IsSettled (disk old (now old))
       → Stays now disk old mid → told mid ≡ told old
@@ -269,18 +273,15 @@ module _ {D : Type 0} (now : D → ℕ) (disk : D → ℕ → Option DiskState)
       → Tells next_in_chain now disk told mid new found result
       → IsRun now disk told old new (status_of_result result) left left held block_in compiled_in
       (Some command)
-  refused_run command changes old mid new error found result left held settled begins same started
+  refused_run command appends old mid new error found result left held settled begins same started
       is stays says =
       let Run : Command → Type 0 = λ c. IsRun now disk told old new (status_of_result result) left
       left held block_in compiled_in (Some c) in
-      for_changes Run
+      for_appends Run
       (refused_taking (Some Append) appended append_takes old mid new error found result left held
       settled begins same started is stays says)
       (refused_taking (Some Follow) followed follow_takes old mid new error found result left held
-      settled begins same started is stays says)
-      (refused_by (Some Upgrade) upgrade_output refl refl (λ input content. refl) upgrade_may_leave
-      old mid new error found result left held settled begins same started is stays says) command
-      changes
+      settled begins same started is stays says) command appends
 
   -- ---- `append` and `follow`
 
@@ -512,28 +513,40 @@ module _ {D : Type 0} (now : D → ℕ) (disk : D → ℕ → Option DiskState)
         ended = λ e. absurd (cc (halts, e));
       }
 
-  pub upgrade_run : {T : Type 0} (old mid new : D) (node : NodeState) (answer : Result T RunStop)
+  pub refused_upgrade : (old mid new : D) (error : StartError)
+      (found : Result Outcome OutcomeStop) (result : Result Ending RunStop)
       (left : Option (List ℕ)) (held : Bool) → IsSettled (disk old (now old))
       → Stays now disk old mid → told mid ≡ told old
-      → (held ≡ true → (content : List ℕ) → content_of (disk old (now old)) ≡ Some content
-      → IsNodeStarted (disk mid (now mid)) (standing next_in_chain content) (Ok node))
-      → ((blocks : List Block) → IsNodeOf node (disk mid (now mid)) blocks
-      → Upgrades now disk told mid new (logged_in node.log blocks) answer)
+      → ((content : List ℕ) → content_of (disk old (now old)) ≡ Some content
+      → IsNoStart (standing next_in_chain content) error)
+      → IfOk found (λ outcome. start_outcome error ≡ Ok outcome) → Stays now disk mid new
+      → Tells next_in_chain now disk told mid new found result
+      → IsRun now disk told old new (status_of_result result) left left held block_in compiled_in
+      (Some Upgrade)
+  refused_upgrade old mid new error found result left held settled begins same opened =
+      refused_by (Some Upgrade) upgrade_output refl (λ input content. refl) upgrade_may_leave old
+      mid new error found result left held settled begins same (λ heard. opened)
+
+  pub upgrade_run : {T : Type 0} (old mid new : D) (log : LogState) (answer : Result T RunStop)
+      (left : Option (List ℕ)) (held : Bool) → IsSettled (disk old (now old))
+      → Stays now disk old mid → told mid ≡ told old
+      → ((content : List ℕ) → content_of (disk old (now old)) ≡ Some content
+      → IsLogStored (disk mid (now mid)) (standing next_in_chain content) (Ok log))
+      → ((logged : Logged) → IsLogOf log (disk mid (now mid)) logged
+      → Upgrades now disk told mid new logged answer)
       → IsRun now disk told old new (status_of_result (upgrade_answer answer)) left left held
       block_in compiled_in (Some Upgrade)
-  upgrade_run old mid new node answer left held settled begins same started all heard input content
+  upgrade_run old mid new log answer left held settled begins same opened all heard input content
       given_input given =
-      let s = started (heard refl) content
-      (told_input (content_of (disk old (now old))) content given) in
-      let logged : Logged = logged_in node.log s.0.blocks in
-      let stands = started_chain node (disk mid (now mid)) (standing next_in_chain content) s in
+      let s = opened content (told_input (content_of (disk old (now old))) content given) in
+      let logged : Logged = s.0 in
       let here : IsKnown (disk mid (now mid)) = ap is_some begins.last
       ∙ told_disk (disk old (now old)) content given in (
         upgrade_output input logged,
         sym (on_log_blocks (upgrade_output input) input (standing next_in_chain content) logged
-            stands),
+            s.1),
         upgrade_met old mid new content logged answer left input
-            (left_same left input given_input) stands
+            (left_same left input given_input) s.1
             (rests_given true (disk old (now old)) content settled given) begins same here
-            (all s.0.blocks s.2.0),
+            (all s.0 s.2),
       )

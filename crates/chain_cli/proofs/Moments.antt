@@ -12,7 +12,7 @@ use Rattle.block_log.specs.Standing.{Standing, NextBlock, Logged, with_blocks, l
 use Rattle.block_log.specs.Standing.{standing}
 use Rattle.block_log.specs.Log.{LogState, Agrees, IsOldOrMarked, next_in_log}
 use Rattle.cli_append.specs.recovery.Node.{NodeState, IsNodeOf, IsNodeStarted, next_in_chain}
-use Rattle.cli_append.specs.recovery.Node.{logged_in}
+use Rattle.cli_append.specs.recovery.Node.{IsLogOf, IsLogStored, logged_in}
 use Rattle.cli_append.specs.cli_promises.Promises.{NoChange, Appends, Marks, MayLeaveAny}
 use Rattle.cli_append.proofs.cli_promises.Tellings.{still}
 use Rattle.cli_append.specs.cli_promises.Appending.{IsKnown, GoesFrom, Grows, Upgrades}
@@ -122,34 +122,32 @@ module _ {D : Type 0} (now : D → ℕ) (disk : D → ℕ → Option DiskState)
       (goes content there)
       (λ c on. longer_any next_in_log content stands.0 stands.1 c (on stands.0 stands.1))
 
-  -- `upgrade`, over the node that it started with
-  pub upgrade_any : {T : Type 0} (old mid new : D) (node : NodeState) (answer : Result T RunStop)
+  -- `upgrade`, over the log that it opened
+  pub upgrade_any : {T : Type 0} (old mid new : D) (log : LogState) (answer : Result T RunStop)
       → IsSettled (disk old (now old)) → Stays now disk old mid
       → ((content : List ℕ) → content_of (disk old (now old)) ≡ Some content
-      → IsNodeStarted (disk mid (now mid)) (standing next_in_chain content) (Ok node))
-      → ((blocks : List Block) → IsNodeOf node (disk mid (now mid)) blocks
-      → Upgrades now disk told mid new (logged_in node.log blocks) answer)
+      → IsLogStored (disk mid (now mid)) (standing next_in_chain content) (Ok log))
+      → ((logged : Logged) → IsLogOf log (disk mid (now mid)) logged
+      → Upgrades now disk told mid new logged answer)
       → (content : List ℕ) → content_of (disk old (now old)) ≡ Some content → Keeps now disk old new
       (MayLeaveAny next_in_chain content)
-  upgrade_any old mid new node answer settled begins started upgrades content here =
-      let s = started content here in
-      let logged : Logged = logged_in node.log s.0.blocks in
-      let stands = started_chain node (disk mid (now mid)) (standing next_in_chain content) s in
+  upgrade_any old mid new log answer settled begins opened upgrades content here =
+      let s = opened content here in
       let still_known : IsKnown (disk mid (now mid)) = ap is_some begins.last
       ∙ is_told (disk old (now old)) content here in
-      then_any next_in_chain old mid new content (IsOldOrMarked next_in_chain logged) settled here
-      begins ((upgrades s.0.blocks s.2.0).images still_known)
-      (λ c at. (Marks, (logged, stands, at)))
+      then_any next_in_chain old mid new content (IsOldOrMarked next_in_chain s.0) settled here
+      begins ((upgrades s.0 s.2).images still_known)
+      (λ c at. (Marks, (s.0, s.1, at)))
 
-  -- the same by the log alone
-  pub upgrade_log : (old mid new : D) (log : LogState) → IsSettled (disk old (now old))
+  -- the same with rows not counted
+  pub upgrade_by_log : (old mid new : D) (log : LogState) → IsSettled (disk old (now old))
       → Stays now disk old mid → Rests (disk mid (now mid)) (Agrees log)
       → ((content : List ℕ) (logged : Logged) → content_of (disk mid (now mid)) ≡ Some content
       → chain_of next_in_log content ≡ Some logged → Keeps now disk mid new
       (IsOldOrMarked next_in_log logged))
       → (content : List ℕ) → content_of (disk old (now old)) ≡ Some content → Keeps now disk old new
       (MayLeaveAny next_in_log content)
-  upgrade_log old mid new log settled begins rests images content here =
+  upgrade_by_log old mid new log settled begins rests images content here =
       let there : content_of (disk mid (now mid)) ≡ Some content = ap content_of begins.last
       ∙ here in
       let stands = log_stands log (disk mid (now mid)) content rests there in

@@ -83,8 +83,11 @@ next_same f g same taken blocks rest fits (Ok frame) = ap (taken_before (frame �
 next_same f g same taken blocks rest fits (Err refusal) = refl
 
 module _ (place : List Block → Block → Placement) (a b : Decoder) (is_a : IsDecoder a) (is_b : IsDecoder b) where
-  step_same : (f g : List Block → List ℕ → Fold) → ((blocks : List Block) (input : List ℕ) → IsBytes input → f blocks input ≡ g blocks input) → (taken : ℕ) (blocks : List Block) (input : List ℕ) → IsBytes input
-      → (step : FrameStep) → frame_step taken input ≡ step → fold_step a place f taken blocks input step ≡ fold_step b place g taken blocks input step
+  step_same : (f g : List Block → List ℕ → Fold)
+      → ((blocks : List Block) (input : List ℕ) → IsBytes input → f blocks input ≡ g blocks input)
+      → (taken : ℕ) (blocks : List Block) (input : List ℕ) → IsBytes input
+      → (step : FrameStep) → frame_step taken input ≡ step
+      → fold_step a place f taken blocks input step ≡ fold_step b place g taken blocks input step
   step_same f g same taken blocks input fits End e = refl
   step_same f g same taken blocks input fits Truncated e = refl
   step_same f g same taken blocks input fits (Length count) e = refl
@@ -94,7 +97,8 @@ module _ (place : List Block → Block → Placement) (a b : Decoder) (is_a : Is
       ap (λ (r : Result Block ℕ). fold_after_frame f taken blocks rest (judgement_of place blocks r)) (decoders_agree a b is_a is_b frame bytes.0)
       ∙ next_same f g same taken blocks rest bytes.1 (judgement_of place blocks (b frame))
 
-  fold_same : (more : ℕ) (blocks : List Block) (input : List ℕ) → IsBytes input → fold_from a place more blocks input ≡ fold_from b place more blocks input
+  fold_same : (more : ℕ) (blocks : List Block) (input : List ℕ) → IsBytes input
+      → fold_from a place more blocks input ≡ fold_from b place more blocks input
   unfolding fold_from
   fold_same zero blocks input fits = refl
   fold_same (suc more) blocks input fits =
@@ -104,7 +108,8 @@ module _ (place : List Block → Block → Placement) (a b : Decoder) (is_a : Is
 
 after_same : (f g : ℕ → List Stored → List ℕ → Standing)
     → ((gate : ℕ) (stored : List Stored) (bytes : List ℕ) → IsBytes bytes → f gate stored bytes ≡ g gate stored bytes)
-    → (gate size : ℕ) (stored : List Stored) (rest : List ℕ) (block : Option Block) → IsBytes rest → after_record f gate size stored rest block ≡ after_record g gate size stored rest block
+    → (gate size : ℕ) (stored : List Stored) (rest : List ℕ) (block : Option Block) → IsBytes rest
+    → after_record f gate size stored rest block ≡ after_record g gate size stored rest block
 after_same f g same gate size stored rest None fits = refl
 after_same f g same gate size stored rest (Some block) fits = same (gate + 5 + size) (stored ++ record { place = gate; digest = digest_of block; block = block } ∷ []) rest fits
 
@@ -117,18 +122,23 @@ both true x y v w same other = same
 both false x y v w same other = other
 
 module _ (place : Placer) (a b : Decoder) (is_a : IsDecoder a) (is_b : IsDecoder b) where
-  next_block_same : (marked : Bool) (blocks : List Block) (bytes : List ℕ) → IsBytes bytes → next_block a place marked blocks bytes ≡ next_block b place marked blocks bytes
+  next_block_same : (marked : Bool) (blocks : List Block) (bytes : List ℕ) → IsBytes bytes
+      → next_block a place marked blocks bytes ≡ next_block b place marked blocks bytes
   next_block_same marked blocks bytes fits = ap (next_decoded place marked blocks) (decoders_agree a b is_a is_b bytes fits)
 
-  record_same : (f g : Bool → ℕ → List Stored → List ℕ → Standing) → ((marked : Bool) (gate : ℕ) (stored : List Stored) (bytes : List ℕ) → IsBytes bytes → f marked gate stored bytes ≡ g marked gate stored bytes)
-      → (marked : Bool) (gate size : ℕ) (stored : List Stored) (bytes : List ℕ) → IsBytes bytes → record_at (next_block a place) f marked gate size stored bytes ≡ record_at (next_block b place) g marked gate size stored bytes
+  record_same : (f g : Bool → ℕ → List Stored → List ℕ → Standing)
+      → ((marked : Bool) (gate : ℕ) (stored : List Stored) (bytes : List ℕ) → IsBytes bytes → f marked gate stored bytes ≡ g marked gate stored bytes)
+      → (marked : Bool) (gate size : ℕ) (stored : List Stored) (bytes : List ℕ) → IsBytes bytes
+      → record_at (next_block a place) f marked gate size stored bytes ≡ record_at (next_block b place) g marked gate size stored bytes
   record_same f g same marked gate size stored bytes fits =
       both (is_mark marked size bytes) _ _ _ _ (same true (gate + 5) stored bytes fits)
       (either (is_sized size bytes) _ _ (Damaged stored gate)
       (ap (after_record (f marked) gate size stored (drop size bytes)) (next_block_same marked (blocks_in stored) (take size bytes) (IsBytes-take size bytes fits))
       ∙ after_same (f marked) (g marked) (same marked) gate size stored (drop size bytes) (next_block b place marked (blocks_in stored) (take size bytes)) (IsBytes-drop size bytes fits)))
 
-  records_same : (count : ℕ) (marked : Bool) (gate : ℕ) (stored : List Stored) (bytes : List ℕ) → IsBytes bytes → records_at (next_block a place) count marked gate stored bytes ≡ records_at (next_block b place) count marked gate stored bytes
+  records_same : (count : ℕ) (marked : Bool) (gate : ℕ) (stored : List Stored) (bytes : List ℕ)
+      → IsBytes bytes
+      → records_at (next_block a place) count marked gate stored bytes ≡ records_at (next_block b place) count marked gate stored bytes
   unfolding records_at
   records_same zero marked gate stored bytes fits = refl
   records_same (suc count) marked gate stored [] fits = refl
@@ -137,7 +147,8 @@ module _ (place : Placer) (a b : Decoder) (is_a : IsDecoder a) (is_b : IsDecoder
       either (eqb byte OPEN_GATE) _ _ (Holds stored marked gate)
       (record_same (records_at (next_block a place) count) (records_at (next_block b place) count) (records_same count) marked gate (from_be_bytes w32 (take 4 bytes)) stored (drop 4 bytes) (IsBytes-drop 4 bytes rest))
 
-  standing_same : (image : List ℕ) → IsBytes image → standing (next_block a place) image ≡ standing (next_block b place) image
+  standing_same : (image : List ℕ) → IsBytes image
+      → standing (next_block a place) image ≡ standing (next_block b place) image
   unfolding standing
   standing_same image fits = either (is_log image) _ _ (cond (is_blank image) Blank NotALog) (records_same (MAX_RECORDS + 1) false FIRST_GATE [] (drop FIRST_GATE image) (IsBytes-drop FIRST_GATE image fits))
 
@@ -254,13 +265,16 @@ only_long : (edition : ℕ) (input : List ℕ) → MAX_WHOLE_INPUT_BYTES < lengt
 only_long edition input long _ (Long _) = refl
 only_long edition input long _ (Source fits outcome is) = absurd (omega (arith, long, fits))
 
-only_source : (edition : ℕ) (input : List ℕ) (outcome : SourceOutcome) → length input ≤ MAX_WHOLE_INPUT_BYTES
-    → IsOutcome edition input outcome → (other : Output) → IsFmtOutput edition input other → other ≡ output_of
+only_source : (edition : ℕ) (input : List ℕ) (outcome : SourceOutcome)
+    → length input ≤ MAX_WHOLE_INPUT_BYTES
+    → IsOutcome edition input outcome → (other : Output) → IsFmtOutput edition input other
+    → other ≡ output_of
     (source_outcome outcome) []
 only_source edition input outcome fits is _ (Long long) = absurd (omega (arith, long, fits))
 only_source edition input outcome fits is _ (Source _ found i) = ap (λ (o : SourceOutcome). output_of (source_outcome o) []) (one_outcome edition input found outcome i is)
 
-only_fmt : (edition : ℕ) (input : List ℕ) (other : Output) → IsFmtOutput edition input other → other ≡ (some_fmt edition input).0
+only_fmt : (edition : ℕ) (input : List ℕ) (other : Output) → IsFmtOutput edition input other
+    → other ≡ (some_fmt edition input).0
 only_fmt edition input other is =
     elim (cases_lt MAX_WHOLE_INPUT_BYTES (length input)) [
       | inl long ↦ only_long edition input long other is ∙ sym (only_long edition input long (some_fmt edition input).0 (some_fmt edition input).1)
@@ -320,7 +334,8 @@ same_asked read compile is_read compile_is wanted =
 -- by any right decoder, the output for bytes is the same
 same_output : (read : Decoder) (compile : Compiler) → IsDecoder read → compile ≡ compiled_in
     → (command : Option Command) (input content : List ℕ) → IsBytes input → IsBytes content
-    → (other : Output) → Wants read compile command input content other → other ≡ (some_output command input content).0
+    → (other : Output) → Wants read compile command input content other
+    → other ≡ (some_output command input content).0
 unfolding some_output
 same_output read compile is_read compile_is None input content fits whole other is = is
 same_output read compile is_read compile_is (Some (Scan query)) input content fits whole other is =

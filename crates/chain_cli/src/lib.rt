@@ -3,6 +3,7 @@
 #![tactic(auto)]
 
 mod answering;
+mod asking;
 mod exit;
 mod fmt;
 mod generating;
@@ -13,6 +14,7 @@ mod over_log;
 mod packing;
 pub mod run;
 mod scan;
+mod upgrading;
 mod words;
 
 pub use exit::exit_of;

@@ -12,7 +12,7 @@ ghost use Rattle.cli_output.specs.{
   Telling.{status_of_result},
 };
 
-use cli_append::{Node, RunStop};
+use cli_append::{RunStop, stored_roots};
 use cli_lines::Ending;
 use cli_output::{start_outcome, tell};
 use cli_proofs::make_light as tell_light;
@@ -41,9 +41,9 @@ pub fn make_light<M: Disk + Wire, S: Scratch>(
         (IsErrOf result RunStop.ScratchFault) }
 {
     let alloc = resources.alloc;
-    match Node::start(resources, machine, scratch) {
-        Ok(node) => {
-            let lineage = node.into_lineage();
+    match stored_roots(resources, machine, scratch) {
+        Ok(chain) => {
+            let lineage = chain.into_lineage();
             let ending = tell_light(alloc, &lineage, machine);
             lineage.give_up();
             ending

@@ -47,7 +47,8 @@ ghost use Rattle.cli_output.specs.{
 use crate::answering::find;
 use crate::generating::generate;
 use crate::lighting::make_light;
-use crate::over_log::change_log;
+use crate::over_log::extend_log;
+use crate::upgrading::upgrade_log;
 use cli_append::RunStop;
 use cli_lines::{Ending, Status};
 use cli_output::{status_of_stop, tell, tell_usage};
@@ -70,6 +71,8 @@ fn run_command<I: Source, M: Disk + Wire, S: Scratch>(
     ensures run { IsRun M.now M.disk M.told machine.old machine.new (status_of_result result) (I.left source.old) (I.left source.new) (is_known (S.state scratch.old)) block_in compiled_in (Some command.now) }
     ensures untouched { changes_log (Some command.now) ≡ false → Stays M.now M.disk machine.old machine.new }
     ensures silent { tells_as_it_goes (Some command.now) ≡ false → IsSilent (status_of_result result) (M.told machine.old) (M.told machine.new) }
+    ensures unwritten { tells_as_it_goes (Some command.now) ≡ false
+        → IsErrOf result RunStop.Memory → Stays M.now M.disk machine.old machine.new }
     ensures unread { reads_input (Some command.now) ≡ false → source.new ≡ source.old }
     ensures goes_on { changes_log (Some command.now) ≡ true → is_known (S.state scratch.old) ≡ true → (content : List ℕ) → content_of (M.disk machine.old (M.now machine.old)) ≡ Some content
         → Keeps M.now M.disk machine.old machine.new (MayLeaveAny next_in_chain content) }
@@ -88,8 +91,9 @@ fn run_command<I: Source, M: Disk + Wire, S: Scratch>(
         Command::Gen(generation) => generate(resources.alloc, machine, generation),
         Command::MakeLight => make_light(resources, machine, scratch),
         Command::Light => light(resources.alloc, source, machine),
-        Command::Append | Command::Follow | Command::Upgrade => {
-            change_log(resources, command, source, machine, scratch)
+        Command::Upgrade => upgrade_log(resources, machine),
+        Command::Append | Command::Follow => {
+            extend_log(resources, command, source, machine, scratch)
         }
         _ => {
             let found = find(resources, command, source, machine, scratch);
@@ -111,6 +115,8 @@ fn run_words<I: Source, M: Disk + Wire, S: Scratch>(
     ensures run { IsRun M.now M.disk M.told machine.old machine.new result (I.left source.old) (I.left source.new) (is_known (S.state scratch.old)) block_in compiled_in command }
     ensures untouched { changes_log command ≡ false → Stays M.now M.disk machine.old machine.new }
     ensures silent { tells_as_it_goes command ≡ false → IsSilent result (M.told machine.old) (M.told machine.new) }
+    ensures unwritten { tells_as_it_goes command ≡ false → result ≡ Status.Memory
+        → Stays M.now M.disk machine.old machine.new }
     ensures unread { reads_input command ≡ false → source.new ≡ source.old }
     ensures goes_on { changes_log command ≡ true → is_known (S.state scratch.old) ≡ true → (content : List ℕ) → content_of (M.disk machine.old (M.now machine.old)) ≡ Some content
         → Keeps M.now M.disk machine.old machine.new (MayLeaveAny next_in_chain content) }
@@ -218,6 +224,10 @@ pub fn run<I: Source, M: Disk + Wire, S: Scratch>(
     // prints nothing, unless it prints lines while it makes others;
     ensures silent { (command : Option Commands) → IsCommand (map string_bytes words.now) command
         → tells_as_it_goes command ≡ false → IsSilent result (M.told machine.old) (M.told machine.new) }
+    // and if it runs out of memory, it leaves the disk as it is;
+    ensures unwritten { (command : Option Commands) → IsCommand (map string_bytes words.now) command
+        → tells_as_it_goes command ≡ false → result ≡ Status.Memory
+        → Stays M.now M.disk machine.old machine.new }
     // each command ends only with a status that it may end with;
     ensures ends { (command : Option Commands) → IsCommand (map string_bytes words.now) command
         → MayEnd result command }

@@ -15,10 +15,11 @@ ghost use Rattle.cli_output.specs.{
 ghost use Rattle.chain_exec.specs.Compiled.{compiled_in};
 ghost use Rattle.chain_input.specs.Folding.{fold_input};
 
+use crate::asking::answer_outcome;
 use chain_input::{Cause, Folded, fold};
 use chain_replay::{Chain, Replay};
-use cli_lines::{Ending, Outcome, answer_lines, refused_line};
-use cli_output::{OutcomeStop, beyond};
+use cli_lines::{Ending, Outcome, refused_line};
+use cli_output::OutcomeStop;
 use lc_base::{Memory, Query, Resources};
 use lc_io::Source;
 use std::alloc::Global;
@@ -30,27 +31,8 @@ fn refusal_outcome(alloc: Global, frame: u32, cause: &Cause) -> Result<Outcome, 
     Outcome::from_line(alloc, refused_line(alloc, frame, cause)?, Ending::Refused)
 }
 
-/// The answer over the rows of a chain, if the chain has the block up to which it is asked for.
-fn answer_outcome(alloc: Global, query: &Query, chain: &mut Chain) -> Result<Outcome, Memory>
-    ensures outcome { IfOk result (λ outcome. (blocks : List Blocks) → StandsFor chain.old blocks → outcome ≡ answer_outcome compiled_in query.now blocks) }
-    ensures ends { IfOk result (λ outcome. EndsAsked outcome.ending) }
-{
-    let count = chain.len();
-    if count == 0 {
-        return beyond(alloc, None);
-    }
-    if query.at >= count {
-        return beyond(alloc, Some(count - 1));
-    }
-    let answer = chain.ask(query)?;
-    Ok(Outcome {
-        pieces: answer_lines(alloc, &answer)?,
-        ending: Ending::Done,
-    })
-}
-
-/// The same, for a chain that is discarded.
-pub fn whole_outcome(alloc: Global, query: &Query, chain: Chain) -> Result<Outcome, Memory>
+/// The answer over the rows of a chain, which is discarded.
+fn whole_outcome(alloc: Global, query: &Query, chain: Chain) -> Result<Outcome, Memory>
     ensures outcome { IfOk result (λ outcome. (blocks : List Blocks) → StandsFor chain blocks → outcome ≡ answer_outcome compiled_in query.now blocks) }
     ensures ends { IfOk result (λ outcome. EndsAsked outcome.ending) }
 {

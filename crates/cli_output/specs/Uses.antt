@@ -20,8 +20,8 @@ pub data InputUse : Type 0 where
 
 -- The chain that is worked over: none; the rows of the input's blocks; those of the log's blocks,
 -- in memory; the lineage of the log's blocks, with bodies on the scratch device, which is asked, or
--- all roots of which are printed; that of blocks that are made; or the chain of the log, to which
--- blocks are appended, or which is marked.
+-- all roots of which are printed; that of blocks that are made; the lineage of the log's blocks, to
+-- which others are appended; or the log by itself, which is marked.
 pub data ChainUse : Type 0 where
   NoChain : ChainUse
   InputRows : ChainUse
@@ -59,12 +59,12 @@ use_of (Some (Ask kind key at)) = record { input = Unread; chain = LogRows; prin
 use_of (Some (Prove query root_at)) = record { input = Unread; chain = LogLineage; print = AtEnd }
 use_of (Some (Verify root query)) = record { input = ProofText; chain = NoChain; print = AtEnd }
 use_of (Some (Expose root query root_at)) = record { input = ProofText; chain = LogLineage; print = AtEnd }
-use_of (Some (Trace key at)) = record { input = Unread; chain = LogLineage; print = AtEnd }
+use_of (Some (Trace key at)) = record { input = Unread; chain = LogRows; print = AtEnd }
 use_of (Some (ProveTrace key at root_at)) = record
     { input = Unread; chain = LogLineage; print = AtEnd }
 use_of (Some (VerifyTrace root key at)) = record
     { input = ProofText; chain = NoChain; print = AtEnd }
-use_of (Some (Range key from to)) = record { input = Unread; chain = LogLineage; print = AtEnd }
+use_of (Some (Range key from to)) = record { input = Unread; chain = LogRows; print = AtEnd }
 use_of (Some (ProveRange key from to root_at)) = record
     { input = Unread; chain = LogLineage; print = AtEnd }
 use_of (Some (VerifyRange root key from to)) = record
@@ -108,11 +108,15 @@ is_log_asked LogRows = true
 is_log_asked LogRoots = true
 is_log_asked other = is_log_lineage other
 
+-- Whether blocks are appended to the log.
+abbrev pub is_log_appended : ChainUse → Bool
+is_log_appended LogAppended = true
+is_log_appended other = false
+
 -- Whether the log is changed: blocks are appended to it, or it is marked.
 abbrev pub is_log_changed : ChainUse → Bool
-is_log_changed LogAppended = true
 is_log_changed LogMarked = true
-is_log_changed other = false
+is_log_changed other = is_log_appended other
 
 -- Whether a block of a chain is asked for.
 abbrev pub is_asked : ChainUse → Bool
@@ -124,7 +128,7 @@ is_asked other = is_log_asked other
 abbrev pub keeps_bodies : ChainUse → Bool
 keeps_bodies MadeLineage = true
 keeps_bodies LogRoots = true
-keeps_bodies other = is_log_lineage other || is_log_changed other
+keeps_bodies other = is_log_lineage other || is_log_appended other
 
 -- Whether each piece is printed as soon as it is made.
 abbrev pub is_as_made : PrintUse → Bool
@@ -162,6 +166,10 @@ asks_lineage command = is_log_lineage (use_of command).chain
 -- Whether it asks the blocks of the log.
 abbrev pub asks_log : Option Command → Bool
 asks_log command = is_log_asked (use_of command).chain
+
+-- Whether it may append blocks to the log.
+abbrev pub appends_log : Option Command → Bool
+appends_log command = is_log_appended (use_of command).chain
 
 -- Whether it may change the log.
 abbrev pub changes_log : Option Command → Bool

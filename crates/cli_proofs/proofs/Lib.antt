@@ -1,10 +1,8 @@
 pub mod Verifies
 pub mod Proves
 pub mod Exposes
-pub mod Traces
 pub mod TraceProves
 pub mod TraceVerifies
-pub mod Ranges
 pub mod RangeProves
 pub mod RangeVerifies
 pub mod Framed

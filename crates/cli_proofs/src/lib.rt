@@ -1,5 +1,5 @@
-//! The commands about proofs, ancestors, all versions between two blocks, and light files: what
-//! each of them prints, over the input and the lineage of a chain.
+//! The commands about proofs and light files: what each of them prints, over the input and the
+//! lineage of a chain.
 #![tactic(auto)]
 
 mod checking;
@@ -11,11 +11,9 @@ mod making;
 mod proving;
 mod range_proving;
 mod range_verifying;
-mod ranging;
 mod taking;
 mod trace_proving;
 mod trace_verifying;
-mod tracing;
 mod verifying;
 
 pub use checking::light;
@@ -24,8 +22,6 @@ pub use making::make_light;
 pub use proving::{hex_line, prove};
 pub use range_proving::prove_range;
 pub use range_verifying::verify_range;
-pub use ranging::range;
 pub use trace_proving::prove_trace;
 pub use trace_verifying::verify_trace;
-pub use tracing::trace;
 pub use verifying::{bad_hex, verify};

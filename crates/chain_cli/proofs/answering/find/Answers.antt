@@ -1,6 +1,6 @@
 use Rattle.std.proofs.Common.{Some, refl}
 use Rattle.lc_io.specs.Scratch.{is_known}
-use Rattle.cli_words.specs.declared.words.Command.TheVariants.{Scan, Fmt, Pack, Load, Ask, Verify}
+use Rattle.cli_words.specs.declared.words.Command.TheVariants.{Scan, Fmt, Pack, Load, Verify}
 use Rattle.cli_words.specs.declared.words.Command.TheVariants.{VerifyTrace, VerifyRange}
 use Rattle.cli_output.specs.Telling.{status_of_found}
 use Rattle.chain_cli.proofs.Ends.{read_ends, load_ends, of_given, found_log, is_count}
@@ -43,6 +43,11 @@ returns-in-Pack-clause-ends g c = of_given (status_of_found c.pack.result) c.arg
 
 pub returns-in-Pack-clause-no_log : goal.returns-in-Pack-clause-no_log
 returns-in-Pack-clause-no_log g c none = absurd (found_log (status_of_found c.pack.result) (Pack c.in-Pack.version) refl (read_ends c.pack.result (Some (Pack c.in-Pack.version)) refl c.pack.ensures.ends c.pack.ensures.only) none)
+
+pub returns-in-Ask-clause-found : goal.returns-in-Ask-clause-found
+returns-in-Ask-clause-found g c =
+    c.ask_rows.ensures.found (g.I.Source.left c.args.source.now)
+    (is_known (g.S.Scratch.state c.args.scratch.now))
 
 pub returns-in-Verify-clause-found : goal.returns-in-Verify-clause-found
 returns-in-Verify-clause-found g c =
@@ -124,11 +129,3 @@ returns-in-Load-clause-found g c =
 pub returns-in-Load-clause-ends : goal.returns-in-Load-clause-ends
 returns-in-Load-clause-ends g c = of_given (status_of_found c.load_outcome.result) c.args.command.now (Load c.in-Load.generation) c.in-Load.is
     (load_ends c.in-Load.generation c.load_outcome.result c.load_outcome.ensures.ending c.load_outcome.ensures.reads c.load_outcome.ensures.disk)
-
-pub returns-in-Ask-clause-found : goal.returns-in-Ask-clause-found
-returns-in-Ask-clause-found g c =
-    of_found (g.M.Clock.disk c.args.machine.now (g.M.Clock.now c.args.machine.now)) c.ask_rows.result (g.I.Source.left c.args.source.now) (g.I.Source.left c.args.source.now) (is_known (g.S.Scratch.state c.args.scratch.now)) c.args.command.now (Ask c.in-Ask.kind c.in-Ask.key c.in-Ask.at) c.in-Ask.is
-    (c.ask_rows.ensures.found (g.I.Source.left c.args.source.now) (is_known (g.S.Scratch.state c.args.scratch.now)))
-
-pub returns-in-Ask-clause-ends : goal.returns-in-Ask-clause-ends
-returns-in-Ask-clause-ends g c = of_given (status_of_found c.ask_rows.result) c.args.command.now (Ask c.in-Ask.kind c.in-Ask.key c.in-Ask.at) c.in-Ask.is c.ask_rows.ensures.ends

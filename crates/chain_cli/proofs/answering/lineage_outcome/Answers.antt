@@ -1,16 +1,14 @@
 use Rattle.std.proofs.Common.{Some, Ok, refl}
 use Rattle.cli_words.specs.declared.words.Command.TheVariants.{Root, Prove, Expose}
-use Rattle.cli_words.specs.declared.words.Command.TheVariants.{Trace, ProveTrace}
-use Rattle.cli_words.specs.declared.words.Command.TheVariants.{Range, ProveRange}
+use Rattle.cli_words.specs.declared.words.Command.TheVariants.{ProveTrace, ProveRange}
 use Rattle.chain_exec.specs.Compiled.{compiled_in}
-use Rattle.cli_output.specs.Output.{root_outcome, prove_outcome, trace_outcome}
-use Rattle.cli_output.specs.Output.{prove_trace_outcome, range_outcome, prove_range_outcome}
-use Rattle.cli_output.specs.Output.{at_or_last}
+use Rattle.cli_output.specs.Output.{root_outcome, prove_outcome, prove_trace_outcome}
+use Rattle.cli_output.specs.Output.{prove_range_outcome, at_or_last}
 use Rattle.cli_output.specs.Telling.{status_of_found}
 use Rattle.cli_output.specs.declared.stop.OutcomeStop.{OutcomeStop}
 use Rattle.cli_output.proofs.Ends.{asked_ends, may_end}
 use Rattle.cli_proofs.proofs.Exposes.{outcome_may, asked_has_log, found_has_log}
-use Rattle.chain_cli.proofs.Ends.{of_given, lineage_ends, in_order, proved_in_order}
+use Rattle.chain_cli.proofs.Ends.{of_given, lineage_ends, proved_in_order}
 use Rattle.chain_cli.proofs.Runs.{asked_over, expose_over, of_over}
 use Rattle.chain_cli.proofs.answering.lineage_outcome.Goals as goal
 
@@ -46,23 +44,6 @@ returns-in-Prove-clause-ends g c = lineage_ends c.prove.result c.args.command.no
 pub returns-in-Prove-clause-has_log : goal.returns-in-Prove-clause-has_log
 returns-in-Prove-clause-has_log g c = asked_has_log c.prove.result c.prove.ensures.ends
 
-pub returns-in-Trace-clause-found : goal.returns-in-Trace-clause-found
-returns-in-Trace-clause-found g c held kept same =
-    of_over kept c.trace.result (g.I.Source.left c.args.source.now)
-    (g.I.Source.left c.args.source.now) c.args.command.now
-    (Trace c.in-Trace.key c.in-Trace.at) c.in-Trace.is
-    (asked_over kept c.trace.result
-    (trace_outcome compiled_in c.in-Trace.key c.in-Trace.at)
-    (g.I.Source.left c.args.source.now) (c.trace.ensures.outcome held kept same))
-
-pub returns-in-Trace-clause-ends : goal.returns-in-Trace-clause-ends
-returns-in-Trace-clause-ends g c = lineage_ends c.trace.result c.args.command.now
-    (Trace c.in-Trace.key c.in-Trace.at) c.in-Trace.is refl
-    c.trace.ensures.ends c.trace.ensures.reads
-
-pub returns-in-Trace-clause-has_log : goal.returns-in-Trace-clause-has_log
-returns-in-Trace-clause-has_log g c = asked_has_log c.trace.result c.trace.ensures.ends
-
 pub returns-in-ProveTrace-clause-found : goal.returns-in-ProveTrace-clause-found
 returns-in-ProveTrace-clause-found g c held kept same =
     of_over kept c.prove_trace.result (g.I.Source.left c.args.source.now)
@@ -81,27 +62,6 @@ returns-in-ProveTrace-clause-ends g c = lineage_ends c.prove_trace.result c.args
 pub returns-in-ProveTrace-clause-has_log : goal.returns-in-ProveTrace-clause-has_log
 returns-in-ProveTrace-clause-has_log g c = asked_has_log c.prove_trace.result
     c.prove_trace.ensures.ends
-
-pub range-requires-clause-in_order : goal.range-requires-clause-in_order
-range-requires-clause-in_order g c = in_order c.args.command.now c.in-Range.key c.in-Range.from
-    c.in-Range.to c.in-Range.is c.requires.given
-
-pub returns-in-Range-clause-found : goal.returns-in-Range-clause-found
-returns-in-Range-clause-found g c held kept same =
-    of_over kept c.range.result (g.I.Source.left c.args.source.now)
-    (g.I.Source.left c.args.source.now) c.args.command.now
-    (Range c.in-Range.key c.in-Range.from c.in-Range.to) c.in-Range.is
-    (asked_over kept c.range.result
-    (range_outcome compiled_in c.in-Range.key c.in-Range.from c.in-Range.to)
-    (g.I.Source.left c.args.source.now) (c.range.ensures.outcome held kept same))
-
-pub returns-in-Range-clause-ends : goal.returns-in-Range-clause-ends
-returns-in-Range-clause-ends g c = lineage_ends c.range.result c.args.command.now
-    (Range c.in-Range.key c.in-Range.from c.in-Range.to) c.in-Range.is refl
-    c.range.ensures.ends c.range.ensures.reads
-
-pub returns-in-Range-clause-has_log : goal.returns-in-Range-clause-has_log
-returns-in-Range-clause-has_log g c = asked_has_log c.range.result c.range.ensures.ends
 
 pub prove_range-requires-clause-in_order : goal.prove_range-requires-clause-in_order
 prove_range-requires-clause-in_order g c = proved_in_order c.args.command.now c.in-ProveRange.key

@@ -6,4 +6,5 @@ use Rattle.chain_cli.proofs.over_log.ask_outcome.Goals as goal
 pub returns-clause-outcome : goal.returns-clause-outcome
 returns-clause-outcome c =
     let asked = c.unwrap_or-at.ensures ∙ ap (λ (last : ℕ). unwrap_or c.args.at last) (c.saturating_sub.ensures ∙ ap (λ (count : ℕ). count - 1) c.len.ensures) in
-    last_asked c.whole_outcome.result c.args.chain c.args.kind c.args.key c.args.at c.unwrap_or-at.result asked c.whole_outcome.ensures.outcome
+    last_asked c.answer_outcome.result c.args.chain.now c.args.kind c.args.key c.args.at
+    c.unwrap_or-at.result asked c.answer_outcome.ensures.outcome

@@ -1,7 +1,7 @@
 use Rattle.std.proofs.Common.{Some, refl}
 use Rattle.lc_io.specs.Scratch.{is_known}
 use Rattle.cli_append.specs.recovery.Node.{next_in_chain}
-use Rattle.cli_words.specs.declared.words.Command.TheVariants.{MakeLight, Light}
+use Rattle.cli_words.specs.declared.words.Command.TheVariants.{Upgrade, MakeLight, Light}
 use Rattle.cli_output.specs.Telling.{status_of_result}
 use Rattle.chain_cli.proofs.Ends.{done_ends, found_log, no_log_found, of_given, others_keep}
 use Rattle.chain_cli.proofs.Lighted.{light_run}
@@ -28,6 +28,19 @@ returns-in-MakeLight-clause-run g c =
 pub returns-in-MakeLight-clause-ends : goal.returns-in-MakeLight-clause-ends
 returns-in-MakeLight-clause-ends g c = of_given (status_of_result c.make_light.result)
     c.args.command.now MakeLight c.in-MakeLight.is c.make_light.ensures.ends
+
+pub returns-in-Upgrade-clause-run : goal.returns-in-Upgrade-clause-run
+returns-in-Upgrade-clause-run g c =
+    of_command g.M.Clock.now g.M.Clock.disk g.M.Clock.told c.args.machine.now
+    c.upgrade_log.new.machine (status_of_result c.upgrade_log.result)
+    (g.I.Source.left c.args.source.now) (g.I.Source.left c.args.source.now)
+    (is_known (g.S.Scratch.state c.args.scratch.now)) c.args.command.now Upgrade c.in-Upgrade.is
+    (c.upgrade_log.ensures.run (g.I.Source.left c.args.source.now)
+    (is_known (g.S.Scratch.state c.args.scratch.now)))
+
+pub returns-in-Upgrade-clause-ends : goal.returns-in-Upgrade-clause-ends
+returns-in-Upgrade-clause-ends g c = of_given (status_of_result c.upgrade_log.result)
+    c.args.command.now Upgrade c.in-Upgrade.is c.upgrade_log.ensures.ends
 
 pub returns-in-Light-clause-run : goal.returns-in-Light-clause-run
 returns-in-Light-clause-run g c =

@@ -1,19 +1,18 @@
 use Rattle.std.proofs.Common.{Err, Some, ap, refl, sym, ◌∙◌}
 use Rattle.lc_io.specs.Scratch.{is_known}
-use Rattle.cli_words.specs.declared.words.Command.TheVariants.{Append, Follow, Upgrade}
+use Rattle.cli_words.specs.declared.words.Command.TheVariants.{Append, Follow}
 use Rattle.block_log.specs.Log.{next_in_log}
 use Rattle.cli_append.specs.recovery.Node.{next_in_chain}
-use Rattle.cli_output.specs.Telling.{run_answer, status_of_result, upgrade_answer}
+use Rattle.cli_output.specs.Telling.{run_answer, status_of_result}
 use Rattle.cli_output.proofs.Ends.{no_start_ends}
 use Rattle.chain_cli.proofs.Runs.{with_status}
-use Rattle.chain_cli.proofs.LogRuns.{append_run, follow_run, refused_run, upgrade_run}
-use Rattle.chain_cli.proofs.Ends.{answer_ends, answer_has_log, marks_log, of_given, upgrade_ends}
-use Rattle.chain_cli.proofs.Ends.{upgrade_silent, uses_both}
+use Rattle.chain_cli.proofs.LogRuns.{append_run, follow_run, refused_run}
+use Rattle.chain_cli.proofs.Ends.{answer_ends, answer_has_log, of_given, uses_both}
 use Rattle.cli_append.proofs.Causes.{carried, kept}
 use Rattle.cli_append.specs.cli_promises.declared.ending.RunStop.TheVariants as stops
-use Rattle.chain_cli.proofs.Blames.{marked_blames, marked_unblamed, none_blamed, taken_blames, unblamed}
-use Rattle.chain_cli.proofs.Moments.{stays_twice, taken_any, taken_log, upgrade_any, upgrade_log}
-use Rattle.chain_cli.proofs.over_log.change_log.Goals as goal
+use Rattle.chain_cli.proofs.Blames.{none_blamed, taken_blames, unblamed}
+use Rattle.chain_cli.proofs.Moments.{stays_twice, taken_any, taken_log}
+use Rattle.chain_cli.proofs.over_log.extend_log.Goals as goal
 
 pub returns-in-Append-clause-run : goal.returns-in-Append-clause-run
 returns-in-Append-clause-run g c =
@@ -44,25 +43,9 @@ returns-in-Follow-clause-run g c =
     c.in-Ok.ensures.answer
     (λ told. c.follow.ensures.follows (c.start.ensures.scratch.retains.known ∙ told)))
 
-pub returns-in_default-clause-run : goal.returns-in_default-clause-run
-returns-in_default-clause-run g c =
-    with_status g.M.Clock.now g.M.Clock.disk g.M.Clock.told c.args.machine.now c.upgrade.new.machine
-    (status_of_result (upgrade_answer c.upgrade.result))
-    (status_of_result c.upgrade_answer.result) (g.I.Source.left c.args.source.now)
-    (g.I.Source.left c.args.source.now) (is_known (g.S.Scratch.state c.args.scratch.now))
-    (Some Upgrade) (Some c.args.command.now)
-    (ap status_of_result (sym c.upgrade_answer.ensures))
-    (ap Some (marks_log c.args.command.now c.requires.changes c.in_default.not-Append
-    c.in_default.not-Follow))
-    (upgrade_run g.M.Clock.now g.M.Clock.disk g.M.Clock.told c.args.machine.now c.start.new.machine
-    c.upgrade.new.machine c.in-Ok.node c.upgrade.result (g.I.Source.left c.args.source.now)
-    (is_known (g.S.Scratch.state c.args.scratch.now))
-    c.requires.settled (c.start.ensures.stays c.requires.settled) c.start.ensures.wire.told
-    c.in-Ok.ensures.answer c.upgrade.ensures.upgrades)
-
 pub returns-in-Err-clause-run : goal.returns-in-Err-clause-run
 returns-in-Err-clause-run g c =
-    refused_run g.M.Clock.now g.M.Clock.disk g.M.Clock.told c.args.command.now c.requires.changes
+    refused_run g.M.Clock.now g.M.Clock.disk g.M.Clock.told c.args.command.now c.requires.appends
     c.args.machine.now c.start.new.machine c.tell.new.machine c.in-Err.error
     c.start_outcome.result c.tell.result (g.I.Source.left c.args.source.now)
     (is_known (g.S.Scratch.state c.args.scratch.now))
@@ -84,13 +67,6 @@ returns-in-Follow-clause-goes_on g c told =
     (c.start.ensures.stays c.requires.settled) (c.in-Ok.ensures.answer told)
     (c.follow.ensures.goes_on (c.start.ensures.scratch.retains.known ∙ told))
 
-pub returns-in_default-clause-goes_on : goal.returns-in_default-clause-goes_on
-returns-in_default-clause-goes_on g c told =
-    upgrade_any g.M.Clock.now g.M.Clock.disk g.M.Clock.told c.args.machine.now c.start.new.machine
-    c.upgrade.new.machine c.in-Ok.node c.upgrade.result c.requires.settled
-    (c.start.ensures.stays c.requires.settled) (c.in-Ok.ensures.answer told)
-    c.upgrade.ensures.upgrades
-
 pub returns-in-Err-clause-goes_on : goal.returns-in-Err-clause-goes_on
 returns-in-Err-clause-goes_on g c told =
     stays_twice g.M.Clock.now g.M.Clock.disk g.M.Clock.told next_in_chain c.args.machine.now
@@ -111,25 +87,11 @@ returns-in-Follow-clause-log_goes_on g c =
     (c.start.ensures.stays c.requires.settled) c.in-Ok.ensures.ready.log
     c.follow.ensures.log_goes_on
 
-pub returns-in_default-clause-log_goes_on : goal.returns-in_default-clause-log_goes_on
-returns-in_default-clause-log_goes_on g c =
-    upgrade_log g.M.Clock.now g.M.Clock.disk g.M.Clock.told c.args.machine.now c.start.new.machine
-    c.upgrade.new.machine c.in-Ok.node.log c.requires.settled
-    (c.start.ensures.stays c.requires.settled) c.in-Ok.ensures.ready.log
-    c.upgrade.ensures.log_images
-
 pub returns-in-Err-clause-log_goes_on : goal.returns-in-Err-clause-log_goes_on
 returns-in-Err-clause-log_goes_on g c =
     stays_twice g.M.Clock.now g.M.Clock.disk g.M.Clock.told next_in_log c.args.machine.now
     c.start.new.machine c.tell.new.machine c.requires.settled
     (c.start.ensures.stays c.requires.settled) c.tell.ensures.disk.stays
-
-pub returns-in_default-clause-silent : goal.returns-in_default-clause-silent
-returns-in_default-clause-silent g c at_end =
-    rw c.upgrade_answer.ensures (upgrade_silent c.upgrade.result (g.M.Clock.told c.args.machine.now)
-    (g.M.Clock.told c.start.new.machine) (g.M.Clock.told c.upgrade.new.machine)
-    c.start.ensures.wire.told c.upgrade.ensures.reads c.upgrade.ensures.keeps
-    c.upgrade.ensures.silent_disk c.upgrade.ensures.silent_memory)
 
 pub returns-in-Append-clause-ends : goal.returns-in-Append-clause-ends
 returns-in-Append-clause-ends g c = of_given (status_of_result c.run_answer.result)
@@ -141,13 +103,6 @@ returns-in-Follow-clause-ends g c = of_given (status_of_result c.run_answer-in-F
     c.args.command.now Follow c.in-Follow.is
     (rw c.run_answer-in-Follow.ensures (answer_ends Follow refl c.follow.result))
 
-pub returns-in_default-clause-ends : goal.returns-in_default-clause-ends
-returns-in_default-clause-ends g c = of_given (status_of_result c.upgrade_answer.result)
-    c.args.command.now Upgrade
-    (marks_log c.args.command.now c.requires.changes c.in_default.not-Append
-    c.in_default.not-Follow)
-    (rw c.upgrade_answer.ensures (upgrade_ends c.upgrade.result c.upgrade.ensures.reads))
-
 pub returns-in-Append-clause-no_log : goal.returns-in-Append-clause-no_log
 returns-in-Append-clause-no_log g c none =
     absurd (cc (rw c.run_answer.ensures at none, answer_has_log c.append.result))
@@ -158,7 +113,7 @@ returns-in-Follow-clause-no_log g c none =
 
 pub returns-in-Err-clause-ends : goal.returns-in-Err-clause-ends
 returns-in-Err-clause-ends g c =
-    let uses = uses_both c.args.command.now c.requires.changes in
+    let uses = uses_both c.args.command.now c.requires.appends in
     c.tell.ensures.ends (Some c.args.command.now)
     (no_start_ends c.start_outcome.result c.in-Err.error (Some c.args.command.now) uses.0
     c.start_outcome.ensures.outcome c.start_outcome.ensures.reads (λ failed. uses.1))
@@ -202,26 +157,6 @@ pub returns-in-Follow-clause-untold : goal.returns-in-Follow-clause-untold
 returns-in-Follow-clause-untold g c =
     taken_blames c.follow.result c.run_answer-in-Follow.result stops.Untold _ _ _ c.run_answer-in-Follow.ensures
     c.start.ensures.wire.faults c.follow.ensures.untold
-
-pub returns-in_default-clause-unreadable : goal.returns-in_default-clause-unreadable
-returns-in_default-clause-unreadable g c =
-    marked_unblamed c.upgrade.result c.upgrade_answer.result stops.Unreadable _ _
-    c.upgrade_answer.ensures refl c.upgrade.ensures.reads
-
-pub returns-in_default-clause-scratch_fault : goal.returns-in_default-clause-scratch_fault
-returns-in_default-clause-scratch_fault g c =
-    marked_unblamed c.upgrade.result c.upgrade_answer.result stops.ScratchFault _ _
-    c.upgrade_answer.ensures (unblamed _ _ c.in-Ok.ensures.scratch.cause) c.upgrade.ensures.keeps
-
-pub returns-in_default-clause-disk_fault : goal.returns-in_default-clause-disk_fault
-returns-in_default-clause-disk_fault g c =
-    marked_blames c.upgrade.result c.upgrade_answer.result stops.DiskFault _ _ _
-    c.upgrade_answer.ensures (unblamed _ _ c.in-Ok.ensures.disk_fault) c.upgrade.ensures.disk_fault
-
-pub returns-in_default-clause-untold : goal.returns-in_default-clause-untold
-returns-in_default-clause-untold g c =
-    marked_blames c.upgrade.result c.upgrade_answer.result stops.Untold _ _ _
-    c.upgrade_answer.ensures c.start.ensures.wire.faults c.upgrade.ensures.untold
 
 pub returns-in-Err-clause-unreadable : goal.returns-in-Err-clause-unreadable
 returns-in-Err-clause-unreadable g c = none_blamed _ _ _ refl
