@@ -8,15 +8,19 @@ import os
 import shutil
 import stat
 import subprocess
+import tempfile
 import time
 
 from checks.limits import by_clock
 from checks.program_cases import GENERATED
+from lineage import kept, sources
 from lineage.lineage_build import CRATE, Proofs, crates_below
 from lineage.statuses import NOT_BUILT, NOT_INSTALLED, NOT_PROVED, USAGE
 
 # After so many seconds a file that was read is known to stand.
 TICK = 2
+# And so many are more than a tick of the clock of the file system of temporary files.
+CLOCK = 0.02
 # What the wrapper needs, and what stands in for the toolchain.
 TOOLS = ["bash", "sh", "python3", "dirname", "readlink", "cp", "mkdir", "sleep", "cat", "git"]
 KIT = "a toolchain of these checks"
@@ -61,6 +65,11 @@ RUN_LIMIT = 60
 PERIOD = 0.1
 # The status of a run that was asked to end.
 ENDED = 143
+# What of the wrapper's record of the sources is looked at before an answer, and how many seconds of a processor an
+# answer over as many sources as there are may take: the least of some runs. docs/performance.md has what it takes.
+RECORD = "out/lineage.kept"
+ANSWER_LIMIT = 0.15
+ANSWERS = 5
 NOT_YET = "not proved: this clone has not checked the proofs"
 NOT_ANY_MORE = "not proved any more"
 
@@ -122,6 +131,7 @@ class Clone:
 def check(checks, tree, folder):
     """Makes these checks in a tree whose program is there, and marked as proved."""
     progress_of_proofs(checks)
+    records(checks)
     clone = Clone(checks, tree, folder)
     ask, source, fails = clone.ask, clone.source, f"{folder}/fails"
     ask("nothing changed", GEN, 0, [])
@@ -146,6 +156,9 @@ def check(checks, tree, folder):
     ask("it was proved long since", GEN, 0, [])
     ask("what was read then is kept", GEN, 0, [])
     take_proved(clone)
+    changes_of_sources(clone)
+    changes_of_toolchain(clone)
+    answers_in_time(clone)
     put(source, "two\n")
     ask("a source changed and not its size", GEN, 0, BUILDING, NOT_ANY_MORE)
     put(source, "one\n")
@@ -185,6 +198,161 @@ def progress_of_proofs(checks):
     tests = [crate for crate in below if crate.endswith("_tests") or crate == "run_cases"]
     checks.same("crates of tests that `--prove` proves", tests, [])
     checks.holds("it proves the program and what it stands on", {"lineage", "chain_cli", "lc_base"} <= below.keys())
+
+
+# ---- what has changed
+
+
+def with_time(path, text):
+    """Writes a file, and puts its time back."""
+    before = os.stat(path)
+    put(path, text)
+    os.utime(path, ns=(before.st_atime_ns, before.st_mtime_ns))
+
+
+def add_folder(tree):
+    put(f"{tree}/crates/lineage/proofs/new/Added.antt", "")
+
+
+def add_crate(tree):
+    put(f"{tree}/crates/other/src/lib.rt", "")
+
+
+def rename(tree):
+    os.rename(f"{tree}/crates/lineage/src/main.rt", f"{tree}/crates/lineage/src/moved.rt")
+
+
+def rename_back(tree):
+    os.rename(f"{tree}/crates/lineage/src/moved.rt", f"{tree}/crates/lineage/src/main.rt")
+
+
+# What is changed in a tree whose source is `one`, and how that is undone.
+CHANGES = {
+    "a source changed, and its time was put back": (
+        lambda tree: with_time(f"{tree}/crates/lineage/src/main.rt", "two\n"),
+        lambda tree: with_time(f"{tree}/crates/lineage/src/main.rt", "one\n"),
+    ),
+    "a file is added in a new folder": (add_folder, lambda tree: shutil.rmtree(f"{tree}/crates/lineage/proofs")),
+    "a file is added beside a source": (
+        lambda tree: put(f"{tree}/crates/lineage/src/other.rt", ""),
+        lambda tree: os.remove(f"{tree}/crates/lineage/src/other.rt"),
+    ),
+    "a crate is added": (add_crate, lambda tree: shutil.rmtree(f"{tree}/crates/other")),
+    "a source is renamed": (rename, rename_back),
+    "a source is removed": (
+        lambda tree: os.remove(f"{tree}/crates/lineage/src/main.rt"),
+        lambda tree: put(f"{tree}/crates/lineage/src/main.rt", "one\n"),
+    ),
+    "a list is removed": (
+        lambda tree: os.rename(f"{tree}/HANDLES", f"{tree}/HANDLED"),
+        lambda tree: os.rename(f"{tree}/HANDLED", f"{tree}/HANDLES"),
+    ),
+}
+
+
+def settle(path):
+    """Has a record stand, as if what it is of had changed long before: as it does after a tick."""
+    text = text_of(path)
+    _, _, rest = text.partition("\n\n")
+    put(path, f"{kept.SETTLED} {time.time_ns() + kept.TICK}\n\n{rest}")
+
+
+def records(checks):
+    """A record stands as long as nothing changes that it is of; what a change leaves is a record's of its own. One
+    that was begun shortly after something changed doesn't stand, and what had not settled in it isn't known."""
+    with tempfile.TemporaryDirectory() as top:
+        file, paths = f"{top}/record", ["crates", "crates/lineage", "crates/lineage/src", "crates/lineage/src/main.rt"]
+        paths += ["crates/lineage/proofs", "HANDLES"]
+        put(f"{top}/HANDLES", "none\n")
+        put(f"{top}/{paths[3]}", "one\n")
+
+        def keep(begun):
+            stamps = {path: kept.stamp_of(f"{top}/{path}") for path in paths}
+            kept.Record(file, top).keep(begun, ["found"], stamps, {paths[3]: "digest"})
+
+        for name, (change, undo) in CHANGES.items():
+            for text, make in ((name, change), (f"{name}, and that is undone", undo)):
+                keep(time.time_ns() + kept.TICK)
+                checks.holds(f"a record stands before {text}", kept.Record(file, top).stands())
+                time.sleep(CLOCK)
+                make(top)
+                checks.holds(f"a record doesn't stand where {text}", not kept.Record(file, top).stands())
+        keep(time.time_ns())
+        record = kept.Record(file, top)
+        checks.same("a record of what has just changed", (record.stands(), record.settled_digests()), (False, {}))
+        keep(time.time_ns() + kept.TICK)
+        record, stamp = kept.Record(file, top), kept.stamp_of(f"{top}/{paths[3]}")
+        checks.same("what is known of a record", record.settled_digests(), {(stamp, paths[3]): "digest"})
+        for text in ("", "settled", "settled x\n\n\n\na\n\nb", "settled 1\n\nfound\n\n1 a\n\nb c"):
+            put(file, text)
+            record = kept.Record(file, top)
+            checks.same(f"a record that is {text!r}", (record.stands(), record.settled_digests()), (False, {}))
+
+
+def changes_of_sources(clone):
+    """Each change of the sources is noticed before the next answer, and that it is undone; and where nothing changed
+    the record stays as it is."""
+    record = f"{clone.tree}/{RECORD}"
+    for name, (change, undo) in CHANGES.items():
+        settle(record)
+        change(clone.tree)
+        clone.ask(name, GEN, 0, BUILDING, NOT_ANY_MORE)
+        settle(record)
+        undo(clone.tree)
+        clone.ask(f"{name}, and that is undone", GEN, 0, [])
+    settle(record)
+    stamp = kept.stamp_of(record)
+    clone.ask("nothing changed since", GEN, 0, [])
+    clone.checks.same("the record where nothing changed", kept.stamp_of(record), stamp)
+
+
+def changes_of_toolchain(clone):
+    """Another toolchain is noticed by its file. Where that isn't there, it is taken for the one that proved."""
+    path = f"{clone.folder}/KIT-ID"
+    put(path, f"{KIT}\n")
+    clone.ask("the toolchain is the one that proved", GEN, 0, [])
+    put(path, "another toolchain\n")
+    for words in (["--proved", *GEN], ["--install", "installed"]):
+        clone.ask(f"the toolchain is another, by {words[0]}", words, NOT_PROVED, [], "the toolchain is another")
+    building = [call for call in BUILDING if call != "version"]
+    clone.ask("the toolchain is another", GEN, 0, building, f"{NOT_ANY_MORE}: the toolchain is another")
+    clone.ask("it was built by that", GEN, 0, [], NOT_ANY_MORE)
+    put(path, f"{KIT}\n")
+    clone.ask("the toolchain is the first again", GEN, 0, [])
+    os.remove(path)
+    clone.ask("the toolchain doesn't say its name", GEN, 0, [])
+
+
+def answers_in_time(clone):
+    """Over as many sources as there are in this repository an answer takes little of a processor."""
+    look = sources.Look({})
+    look.sources()
+    added = [path for path in look.digests if path.startswith(f"{sources.CRATES}/")]
+    for path in added:
+        put(f"{clone.tree}/{sources.CRATES}/of_{path.removeprefix(f'{sources.CRATES}/')}", "")
+    subprocess.run([f"{clone.tree}/tools/lineage/mark-built"], check=True)
+    clone.ask("there are many sources", GEN, 0, [])
+    settle(f"{clone.tree}/{RECORD}")
+    clone.ask("there are many sources, which are kept", GEN, 0, [])
+    least = min(seconds_of(clone, GEN) for _ in range(ANSWERS))
+    name = f"an answer over {len(added)} sources takes {least:.3f} s of a processor, and less than {ANSWER_LIMIT}"
+    clone.checks.holds(name, least < ANSWER_LIMIT)
+    for crate in {path.split("/")[1] for path in added}:
+        shutil.rmtree(f"{clone.tree}/{sources.CRATES}/of_{crate}")
+    subprocess.run([f"{clone.tree}/tools/lineage/mark-built"], check=True)
+
+
+def seconds_of(clone, words):
+    """How many seconds of a processor a run takes, with the program."""
+    streams = {"stdin": subprocess.DEVNULL, "stdout": subprocess.DEVNULL, "stderr": subprocess.DEVNULL}
+    environment = {**os.environ, "PATH": clone.tools}
+    ran = subprocess.Popen([f"{clone.tree}/lineage", *words], env=environment, cwd=clone.folder, **streams)
+    _, status, used = os.wait4(ran.pid, 0)
+    ran.returncode = os.waitstatus_to_exitcode(status)
+    return used.ru_utime + used.ru_stime
+
+
+# ---- builds
 
 
 def builds_that_end(clone):

@@ -13,12 +13,12 @@ from cases.block_files import block_file, sets
 from cases.generated_chain import Generated
 from cases.growing_roots import growing_roots
 from cases.light_cases import pieces
-from cases.log_cases import ALREADY, BEYOND, DISK_FAULT, DONE, FIRST_GATE, HEAD, MARK, MEMORY, REFUSED, SCRATCH_FAULT
+from cases.log_cases import ALREADY, BEYOND, DISK_FAULT, DONE, FIRST_GATE, HEAD, MARK, MEMORY, REFUSED
 from cases.log_cases import SET_FILE, SET_LINE, SET_LOG, UNREADABLE, UNTOLD, USAGE, frames_of, log_of, upgraded
-from cases.root_cases import History, Row
+from cases.root_cases import Row
 from checks.disk_calls import CREATE, LOCK, NEW, SYNCS, TRUNCATE
 from checks.log_runs import LOG, held_frames, is_marked, known_lines
-from checks.program_cases import MADE_FROM, RAW_A_PROOF, RECALL_FILE, RECALL_LINES, RECALL_LOG, RECALL_ROWS, S1, USED
+from checks.program_cases import MADE_FROM, RAW_A_PROOF, RECALL_FILE, RECALL_LINES, RECALL_LOG, S1, USED
 from checks.program_cases import BATCH, OF_PART, RECALL_LIGHT, SET_FRAME, SET_LIGHT, SET_TOLD, VERIFY
 from checks.program_runs import take_rights
 from checks.recall_chains import chain_of, over, recall_chain
@@ -355,27 +355,18 @@ def pipe_for_log(checks, watched):
                 checks.same(f"{words} over a pipe of mode {mode:o}", ran, answer)
 
 
-def bodies_of(count):
-    """How many bytes the bodies of the rows of the first blocks have, so many; the first byte of a text says what
-    is hashed."""
-    history = History(RECALL_ROWS)
-    return sum(len(history.body_text(row)) - 1 for row in RECALL_ROWS if row.block < count)
-
-
 def limit_of_a_file(checks, watched):
-    """Files that may not grow past some size: a write is short, or fails, to the log or first to the scratch file.
-    What was told of stays."""
+    """A log that may not grow past some size: a write is short, or fails. What was told of stays. The scratch file is
+    not written, as its bodies are few."""
     sizes = [0, 1, 8, 9, len(HEAD) + 1, len(SET_LOG), len(RECALL_LOG) - 1]
-    sizes += [len(log_of(b"".join(FRAMES[:count]))) for count in (1, 2)] + [bodies_of(1), bodies_of(1) + 30]
+    sizes += [len(log_of(b"".join(FRAMES[:count]))) for count in (1, 2)]
     for size in sizes:
         ran = watched.run("append", RECALL_FILE, file_limit=size)
         told = ran.told.count("\n")
         held = held_frames(ran.log or b"")
         name = f"append to a file of at most {size} bytes"
-        kept = sum(bodies_of(n + 1) <= size for n in range(len(FRAMES)))
         stored = sum(len(log_of(b"".join(FRAMES[: n + 1]))) <= size for n in range(len(FRAMES)))
-        status = DISK_FAULT if stored < kept else SCRATCH_FAULT
-        checks.same(name, (ran.status, ran.told), (status, "".join(LINES[: min(kept, stored)])))
+        checks.same(name, (ran.status, ran.told), (DISK_FAULT, "".join(LINES[:stored])))
         checks.same(f"blocks after {name}", held, FRAMES[:told])
         checks.holds(f"no more than the limit after {name}", len(ran.log or b"") <= size)
         goes_on(checks, watched, ran.log, name)
@@ -383,10 +374,8 @@ def limit_of_a_file(checks, watched):
 
 
 def limit_of_a_marked_file(checks, watched):
-    """A log that may not grow by the mark, or by some bytes of it, is as it was but for what stands behind its end; the
-    scratch file is shorter than it."""
+    """A log that may not grow by the mark, or by some bytes of it, is as it was but for what stands behind its end."""
     log = log_of(FRAMES[0])
-    checks.holds("a scratch file is shorter than the log", bodies_of(1) < len(log))
     for size in range(len(log), len(log) + len(MARK) + 2):
         ran, is_done = watched.run("upgrade", log=log, file_limit=size), size > len(log) + len(MARK)
         name = f"upgrade of a file of at most {size} bytes"

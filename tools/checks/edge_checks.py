@@ -6,8 +6,9 @@ from checks.edge_calls import failing_calls, limit_of_a_file, log_made_meanwhile
 from checks.edge_calls import order_of_calls, order_of_long_runs, pipe_for_log, rest_of_input
 from checks.imported_calls import imported_calls
 from checks.lock_checks import changes_at_each_call, changes_between_frames, lock_of_another, lock_of_a_run
-from checks.scratch_checks import bodies_read_back, folder_of_the_scratch_file, names_that_are_taken, nothing_is_left
-from checks.scratch_checks import scratch_calls, versions_read_back
+from checks.scratch_checks import bodies_read_back, folder_of_the_scratch_file, limit_of_the_scratch_file
+from checks.scratch_checks import names_that_are_taken, no_scratch_file, nothing_is_left, scratch_calls
+from checks.scratch_checks import versions_read_back
 
 # Those of the log and the streams, and those of the scratch file; of each the short ones come first.
 LOG_PARTS = [
@@ -16,7 +17,8 @@ LOG_PARTS = [
     failing_calls, changes_at_each_call,
 ]
 SCRATCH_PARTS = [
-    bodies_read_back, versions_read_back, folder_of_the_scratch_file, names_that_are_taken, nothing_is_left,
-    scratch_calls,
+    no_scratch_file, bodies_read_back, versions_read_back, limit_of_the_scratch_file, folder_of_the_scratch_file,
+    names_that_are_taken,
+    nothing_is_left, scratch_calls,
 ]
 PARTS = LOG_PARTS + SCRATCH_PARTS

@@ -292,7 +292,7 @@ CASES = [
     # What stood where the mark is put, and behind it.
     Case(b"upgrade", None, upgraded(1), 0, log=SET_LOG + b"junk and more", after=MARKED_LOG + b"and more"),
     # A log that may only be read, in a folder where no file can be made: nor that of the scratch device, which
-    # a block without rows doesn't use.
+    # `hist` and `upgrade` don't use, nor a block without rows.
     Case(b"hist raw/a", None, SET_ANSWER, 0, log=SET_LOG, is_read_only=True),
     Case(b"hist raw/a", None, "beyond empty\n", 9, is_read_only=True),
     Case(b"append", EMPTY_FRAME, "known 0\n", 0, log=EMPTY_LOG, is_read_only=True),
@@ -305,7 +305,8 @@ CASES = [
     Case(b"upgrade", None, ALREADY, 0, log=MARKED_EMPTY, is_read_only=True),
     Case(b"upgrade", None, "", 4, log=EMPTY_LOG, is_read_only=True),
     Case(b"upgrade", None, "", 4, is_read_only=True),
-    Case(b"upgrade", None, "", 12, log=MARKED_LOG, is_read_only=True),
+    Case(b"upgrade", None, ALREADY, 0, log=MARKED_LOG, is_read_only=True),
+    Case(b"upgrade", None, "", 4, log=SET_LOG, is_read_only=True),
     Case(b"load 20 7", None, "", 12, is_read_only=True),
     # What stands behind a closed gate means nothing.
     Case(b"append", ONE_SET, SET_LINE, 0, log=SET_LOG[:8] + b"\0junk", after=SET_LOG),

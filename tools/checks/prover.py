@@ -11,6 +11,8 @@ import sys
 
 NAME = "rt"
 FLAGS = ["--jobs", "1"]
+# What `rt` calls an edit that is refused, by a goal or by a limit of the prover.
+REFUSED = ("refused", "limit")
 # An error, or a goal that isn't proved, with the place.
 TOLD = re.compile(r"(?:note: )?(?:\./)?(\S+?):(\d+):\d+: (.*)")
 NOT_PROVED = "it is not proved that "
@@ -45,10 +47,16 @@ def is_proved(crate, kept):
     return ran.returncode == 0
 
 
+def judged(crate, edit, kept):
+    """Whether an edit is refused, and what `rt` says of it: it says so by a truth value, or by a word of its own."""
+    kind, text = rt().must_fail(crate, edit, FLAGS, kept)
+    return kind is True or kind in REFUSED, text
+
+
 def try_alone(crate, edit, kept):
     """Whether an edit is refused, and what `rt` says of it. What isn't refused over kept work is tried from nothing."""
-    refused = rt().must_fail(crate, edit, FLAGS, kept)
-    return refused if refused[0] or not kept else rt().must_fail(crate, edit, FLAGS)
+    refused = judged(crate, edit, kept)
+    return refused if refused[0] or not kept else judged(crate, edit, None)
 
 
 def try_together(crate, texts, edits, kept):

@@ -10,18 +10,17 @@ import tempfile
 
 from cases.block_files import OK, block_file, calls, deploys, sets
 from cases.growing_roots import growing_roots
-from cases.log_cases import DONE, SCRATCH_FAULT, frames_of, log_of, upgraded
+from cases.log_cases import DISK_FAULT, DONE, SCRATCH_FAULT, frames_of, log_of, upgraded
 from cases.proof_cases import proof_of
-from cases.range_cases import range_of, range_proof_of
+from cases.range_cases import range_proof_of
 from cases.root_cases import History, Row, block_digests
 from cases.trace_cases import trace_proof_of
-from cases.verifier import text_of
 from checks.disk_calls import CREATE, NEW, TRUNCATE, get, put
-from checks.edge_calls import ERRORS, FRAMES, LINES, goes_on, some_of_each_kind
+from checks.edge_calls import ERRORS, FRAMES, LINES, QUESTION, goes_on, run_again, some_of_each_kind
 from checks.lock_checks import give, running_append
 from checks.log_runs import LOG, SCRATCH, SCRATCH_FOLDER, held_frames, known_lines
 from checks.program_cases import BATCH, MADE_FROM, OF_PART, RECALL_FILE, RECALL_LIGHT, RECALL_LOG, RECALL_ROOTS
-from checks.program_cases import RECALL_ROWS, S1
+from checks.program_cases import RECALL_ROWS, S1, USED
 from checks.program_runs import take_rights
 
 # The owner alone may open it.
@@ -29,6 +28,8 @@ MODE = 0o600
 # What is put after its name where there is a file of that name, and how many names are tried.
 MARK = "_"
 NAMES = 32
+# How many bytes of bodies are gathered in memory at most.
+GATHERED_BYTES = 1 << 16
 
 
 def body_size(history, row):
@@ -64,7 +65,6 @@ READING_BACK = PROVED | TRACED | RANGED
 RUNS = [
     ("append", RECALL_FILE, None, "".join(LINES)),
     ("append", RECALL_FILE, log_of(FRAMES[0]), "".join(known_lines(1) + LINES[1:])),
-    ("upgrade", b"", RECALL_LOG, upgraded(len(FRAMES))),
     (S1.decode(), b"", RECALL_LOG, MADE_FROM),
     (OF_PART.decode(), b"", RECALL_LOG, BATCH),
     ("light make", b"", RECALL_LOG, RECALL_LIGHT.decode("latin-1")),
@@ -74,38 +74,90 @@ RUNS = [
 ]
 
 
+# Runs over a log that make none: the words, and what is told.
+WITHOUT_FILE = [("upgrade", upgraded(len(FRAMES))), (QUESTION, USED)]
+
+
+class Moves:
+    """What puts and gets of bodies do to the file. Bodies are gathered; what is gathered is written at once where the
+    next one has no room there, or where a byte of it is read."""
+
+    def __init__(self):
+        self.at, self.gathered, self.made = 0, 0, []
+
+    def flush(self):
+        if self.gathered:
+            self.made.append(("pwrite", self.at, self.gathered))
+            self.at, self.gathered = self.at + self.gathered, 0
+
+    def put(self, size):
+        if self.gathered + size > GATHERED_BYTES:
+            self.flush()
+        self.gathered += size
+        if size > GATHERED_BYTES:
+            self.flush()
+
+    def get(self, at, size):
+        if at + size > self.at:
+            self.flush()
+        self.made.append(("pread", at, size))
+
+
+def moves_of(history, rows, read_back):
+    """The writes and reads where the bodies of these rows are put, and then those of some of them, by their numbers,
+    are read back."""
+    moves, sizes = Moves(), [body_size(history, row) for row in rows]
+    for size in sizes:
+        moves.put(size)
+    for number in read_back:
+        moves.get(sum(sizes[:number]), sizes[number])
+    return moves
+
+
 # ---- its calls
+
+
+def no_scratch_file(checks, watched):
+    """A command that runs the blocks of a log into rows makes no scratch file."""
+    for words, told in WITHOUT_FILE:
+        ran = watched.run(words, log=RECALL_LOG, LOG=SCRATCH)
+        checks.same(f"{words} without a scratch file", (ran.told, ran.status), (told, DONE))
+        checks.same(f"calls of the scratch file, {words}", [call for call in ran.calls if call.what == "log"], [])
 
 
 def scratch_calls(checks, watched):
     """What is done with the scratch file, in which order; and each of these calls failing, moving one byte, or taking
     nothing."""
+    history = History(RECALL_ROWS)
     for words, source, log, told in RUNS:
-        good = watched.run(words, source, log, LOG=SCRATCH)
-        checks.same(f"{words} with its scratch file", (good.told, good.status), (told, DONE))
-        numbered = [(number, call) for number, call in enumerate(good.calls) if call.what == "log"]
-        made = [call for _, call in numbered]
-        checks.same(f"calls of the scratch file, {words}", list(scratch_steps(made)), wanted_steps(words))
-        for number, call in numbered:
-            settings = ["FAIL"] + ["NOTHING", "SHORT"] * call.moves_bytes()
-            for setting in settings:
-                scratch_call(checks, watched, (words, source, log), good, {setting: number})
+        read_back = [RECALL_ROWS.index(READING_BACK[words])] if words in READING_BACK else []
+        run = words, source, log, told, steps_of(moves_of(history, RECALL_ROWS, read_back))
+        good = scratch_run(checks, watched, run)
         for number in some_of_each_kind(good.calls):
             for error in ERRORS * (good.calls[number].what == "log"):
-                scratch_call(checks, watched, (words, source, log), good, {"FAIL": number, "ERROR": error})
+                scratch_call(checks, watched, run, good, {"FAIL": number, "ERROR": error})
+    chain = ReadBack()
+    scratch_run(checks, watched, ("append", chain.file, None, "".join(chain.lines()), steps_of(chain.moves())))
 
 
-def wanted_steps(words):
-    """The calls of the scratch file: it is made anew, its name is taken away, and the bodies are put one after
-    another."""
-    history, at, steps = History(RECALL_ROWS), 0, [f"made anew {MODE:o}", "unlink", "dup"]
-    for row in RECALL_ROWS:
-        size = body_size(history, row)
-        steps.append(f"pwrite {at} {size}")
-        if row is READING_BACK.get(words):
-            read_back = [f"pread {at} {size}"]
-        at += size
-    return steps + read_back if words in READING_BACK else steps
+def scratch_run(checks, watched, run):
+    """What is done with the scratch file in a run; and each of these calls failing, moving one byte, or taking
+    nothing."""
+    words, source, log, told, wanted = run
+    good = watched.run(words, source, log, LOG=SCRATCH)
+    checks.same(f"{words} with its scratch file", (good.told, good.status), (told, DONE))
+    numbered = [(number, call) for number, call in enumerate(good.calls) if call.what == "log"]
+    made = [call for _, call in numbered]
+    checks.same(f"calls of the scratch file, {words}", list(scratch_steps(made)), wanted)
+    for number, call in numbered:
+        for setting in ["FAIL"] + ["NOTHING", "SHORT"] * call.moves_bytes():
+            scratch_call(checks, watched, run, good, {setting: number})
+    return good
+
+
+def steps_of(moves):
+    """The calls of the scratch file: it is made anew, its name is taken away, and then bytes are moved."""
+    return [f"made anew {MODE:o}", "unlink", "dup", *[f"{name} {at} {size}" for name, at, size in moves.made]]
 
 
 def scratch_steps(calls):
@@ -123,7 +175,7 @@ def scratch_steps(calls):
 def scratch_call(checks, watched, run, good, settings):
     """A run of which one call of the scratch file was made to fail, or to move fewer bytes. Where its name can't be
     taken away, that is done at the end; a call that was interrupted may be made again. No run leaves it."""
-    words, source, log = run
+    words, source, log, *_ = run
     number = next(iter(settings.values()))
     call = good.calls[number]
     ran = watched.run(words, source, log, LOG=SCRATCH, **settings)
@@ -138,11 +190,23 @@ def scratch_call(checks, watched, run, good, settings):
     checks.same(f"status of {name}", ran.status, SCRATCH_FAULT)
     checks.same(f"lines of {name}", ran.told, "".join(lines[:before]))
     if words == "append":
+        frames = frames_of(source)
         held = max(before, len(held_frames(log or b"")))
-        checks.same(f"blocks after {name}", held_frames(ran.log or b""), FRAMES[:held])
-        goes_on(checks, watched, ran.log, name)
+        checks.same(f"blocks after {name}", held_frames(ran.log or b""), frames[:held])
+        if source == RECALL_FILE:
+            goes_on(checks, watched, ran.log, name)
+        else:
+            stores_the_rest(checks, watched, source, ran.log, lines, name)
     else:
         checks.same(f"log after {name}", ran.log, log)
+
+
+def stores_the_rest(checks, watched, source, log, lines, name):
+    """An append over what was left has the blocks that are there, and stores the others."""
+    held = len(held_frames(log or b""))
+    again = run_again(watched, "append", source, log)
+    wanted = "".join(known_lines(held) + lines[held:]), DONE, log_of(source)
+    checks.same(f"going on after {name}", (again.told, again.status, again.log), wanted)
 
 
 # ---- what is read back
@@ -161,14 +225,14 @@ class ReadBack:
     """A chain whose last block asks for values of its first one of which the bodies are not at hand."""
 
     def __init__(self):
-        self.rows = [Row(f"raw/{at}", 0, at, TEXT.format(at), []) for at in range(ROWS)]
+        self.first = [Row(f"raw/{at}", 0, at, TEXT.format(at), []) for at in range(ROWS)]
         puts = "".join(f' put "ask/{at}" = hist_text("raw/{at}", 0);' for at in READ_BACK)
         blocks = [
-            [sets(row.key, row.value) for row in self.rows],
+            [sets(row.key, row.value) for row in self.first],
             [deploys("ask", f"fn old() {{{puts} }}")],
             [calls("ask", "old", [], 10_000, OK, 0)],
         ]
-        self.rows += [Row(f"ask/{at}", 2, 0, TEXT.format(at), []) for at in READ_BACK]
+        self.rows = self.first + [Row(f"ask/{at}", 2, 0, TEXT.format(at), []) for at in READ_BACK]
         self.file = block_file(blocks)
         self.frames = frames_of(self.file)
 
@@ -178,6 +242,14 @@ class ReadBack:
             count = sum(row.block == at for row in self.rows)
             yield f"block {at} rows {count} status {statuses[at]} root {root}\n"
 
+    def moves(self):
+        """What an append does to the scratch file: the last rows are put after those that they are read from."""
+        history = History(self.rows)
+        moves = moves_of(history, self.first, READ_BACK)
+        for row in self.rows[ROWS:]:
+            moves.put(body_size(history, row))
+        return moves
+
 
 def bodies_read_back(checks, watched):
     """The bodies that are read back are those that were put, wherever they stand in the file: by the roots of what a
@@ -186,10 +258,8 @@ def bodies_read_back(checks, watched):
     ran = watched.run("append", chain.file, LOG=SCRATCH)
     lines = list(chain.lines())
     checks.same("an append that reads bodies back", (ran.told, ran.status), ("".join(lines), DONE))
-    history = History(chain.rows)
-    sizes = [body_size(history, row) for row in chain.rows]
-    reads = [(call.at, call.size) for call in ran.calls if call.name == "pread"]
-    checks.same("what is read back", reads, [(sum(sizes[:at]), sizes[at]) for at in READ_BACK])
+    moves = [(call.name, call.at, call.size) for call in ran.calls if call.what == "log" and call.moves_bytes()]
+    checks.same("what is written and read back", moves, chain.moves().made)
     log = log_of(chain.file)
     checks.same("the log of that", ran.log, log)
     known = watched.run("append", chain.file, log)
@@ -208,19 +278,38 @@ FIRST_VERSIONS, LAST_VERSIONS = 50, 10
 
 
 def versions_read_back(checks, watched):
-    """Of the versions between two blocks each body is read once, and no other one is."""
+    """For a proof of the versions between two blocks each of their bodies is read once, and no other one is."""
     key = "raw/a"
     rows = [Row(key, at, 0, TEXT.format(at), []) for at in range(ROWS)]
-    log = log_of(block_file([[sets(row.key, row.value)] for row in rows]))
-    history = History(rows)
+    file = block_file([[sets(row.key, row.value)] for row in rows])
+    log, history, root_at = log_of(file), History(rows), ROWS - 1
+    digest = block_digests(frames_of(file))[root_at]
     sizes = [body_size(history, row) for row in rows]
     for first, last, is_read in [(0, FIRST_VERSIONS - 1, True), (ROWS - LAST_VERSIONS, ROWS - 1, False)]:
-        words = f"range {key} {first} {last}"
+        words = f"range prove {key} {first} {last} {root_at}"
         ran = watched.run(words, log=log, LOG=SCRATCH)
-        checks.same(words, (ran.told, ran.status), (text_of(range_of(rows, key, first, last)), DONE))
+        proof = range_proof_of(history, digest, key, first, last, root_at).hex() + "\n"
+        checks.same(words, (ran.told, ran.status), (proof, DONE))
         reads = sorted((call.at, call.size) for call in ran.calls if call.name == "pread")
         wanted = [(sum(sizes[:at]), sizes[at]) for at in range(first, last + 1) if is_read]
         checks.same(f"what is read back by {words}", reads, wanted)
+
+
+def limit_of_the_scratch_file(checks, watched):
+    """Files that may not grow past some size: where a write of bodies is short, or fails, nothing is told; where all
+    are done, the log can't be written. Either way the next run goes on."""
+    chain = ReadBack()
+    lines = list(chain.lines())
+    ends = [at + size for name, at, size in chain.moves().made if name == "pwrite"]
+    checks.holds("bodies are written more than once", len(ends) > 1)
+    checks.holds("the first block is longer than its bodies", len(log_of(chain.frames[0])) > ends[-1])
+    for size in [ends[0] - 1, ends[0], ends[-1] - 1, ends[-1]]:
+        ran = watched.run("append", chain.file, file_limit=size)
+        name = f"append that reads bodies back, of files of at most {size} bytes"
+        wanted = "", DISK_FAULT if size >= ends[-1] else SCRATCH_FAULT
+        checks.same(name, (ran.told, ran.status), wanted)
+        checks.same(f"blocks after {name}", held_frames(ran.log or b""), [])
+        stores_the_rest(checks, watched, chain.file, ran.log, lines, name)
 
 
 # ---- where it is made, and what is left of it

@@ -1,5 +1,6 @@
 """Checks of what ./lineage says of things that are not wrong words or a wrong input: how transactions ended, and
-for what a file was taken. What is expected was written from docs/language.md and docs/formats.md.
+for what a file was taken; of words of which it can be seen what was meant; and of bytes on a terminal. What is
+expected was written from docs/language.md and docs/formats.md.
 """
 import os
 import pty
@@ -32,7 +33,9 @@ from checks.limits import by_clock, limited
 from checks.log_runs import LOG
 from checks.program_cases import EVENING_FRAMES, EVENING_TOLD, MAY_PROOF, PROVE_S1, RAW_A_PROOF, RAW_A_ROOT
 from checks.program_cases import RECALL_FILE, RECALL_LOG, RECALL_ROOTS, SET_LIGHT, SHELF_LIGHT, SHELF_ROOT
-from lineage.statuses import BAD_INPUT, DAMAGED, DISK_FAULT, DONE, NOT_A_LOG, REFUSED, REJECTED, UNTOLD, USAGE
+from lineage import commands
+from lineage.statuses import BAD_INPUT, DAMAGED, DISK_FAULT, DONE, NOT_A_LOG, NOT_SHOWN, REFUSED, REJECTED, UNTOLD
+from lineage.statuses import USAGE
 from lineage.told_statuses import STATUSES
 from places import TOP
 
@@ -57,6 +60,7 @@ BLOCKS = [
         calls("bank", "add", [1], 1_000, NO_KEY, 0),
         calls("other", "put_other", [], 1_000, FOREIGN, 0),
     ],
+    [],
     [sets("raw/a", 1), sets("raw/a", "text", ["raw/b"], CONFLICT), sets("raw/c", 2)],
 ]
 # What is said of them.
@@ -71,14 +75,14 @@ lineage: block 1 tx 2: BadArgs (6): the function `add` takes other arguments, by
 lineage: block 1 tx 3: OutOfSteps (7): its budget of 5 steps is too small
 lineage: block 1 tx 4: NoKey (2): a key that it reads or asks about has no version there, or one that is gone
 lineage: block 1 tx 5: Foreign (3): the contract `other` puts keys under other/ alone
-lineage: block 2 tx 1: Conflict (1): an earlier transaction of the block wrote `raw/a`, or one of the keys that it \
+lineage: block 3 tx 1: Conflict (1): an earlier transaction of the block wrote `raw/a`, or one of the keys that it \
 is derived from
 """
 
 
 def told_statuses():
     """The status lists that `append` tells of the blocks."""
-    return [",".join(str(tx.status) for tx in block) for block in BLOCKS]
+    return [",".join(str(tx.status) for tx in block) or "-" for block in BLOCKS]
 
 
 def statuses_in(printed):
@@ -102,7 +106,7 @@ def words_for_statuses(checks, wrapper):
         checks.same("the statuses that are printed", statuses_in(ran.stdout.decode()), told_statuses())
         checks.same("what is said of them", (ran.returncode, ran.stderr.decode()), (DONE, SAID))
         again = append(wrapper, folder, subprocess.PIPE)
-        checks.same("what is said of known blocks", (again.stdout, again.stderr), (b"known 0\nknown 1\nknown 2\n", b""))
+        checks.same("what is said of known blocks", (again.stdout, again.stderr), (b"known 0\nknown 1\nknown 2\nknown 3\n", b""))
         printed = ran.stdout
     with tempfile.TemporaryDirectory() as folder:
         ran = append(wrapper, folder, subprocess.PIPE, "follow")
@@ -158,9 +162,13 @@ def output_that_ends(checks, wrapper):
         checks.holds("what was told of is stored", os.path.getsize(f"{folder}/{LOG}") > 0)
 
 
-def on_terminal(wrapper, words, folder, source=subprocess.DEVNULL, look=lambda text: None):
-    """What a terminal shows of a run, and its status. What was shown so far is looked at as it comes."""
+def on_terminal(wrapper, words, folder, source=subprocess.DEVNULL, look=lambda text: None, typed=None):
+    """What a terminal shows of a run, and its status. What was shown so far is looked at as it comes. What is typed
+    there is its input, in place of the source."""
     shown, terminal = pty.openpty()
+    if typed is not None:
+        os.write(shown, typed)
+        source = terminal
     ran = subprocess.Popen([wrapper, *words], cwd=folder, stdin=source, stdout=terminal, stderr=terminal)
     os.close(terminal)
     text, end = b"", time.monotonic() + by_clock(RUN_LIMIT)
@@ -171,7 +179,7 @@ def on_terminal(wrapper, words, folder, source=subprocess.DEVNULL, look=lambda t
             break
         look(text.decode(errors="replace"))
     os.close(shown)
-    return text.decode().replace("\r\n", "\n"), ran.wait(by_clock(RUN_LIMIT))
+    return text.decode(errors="replace").replace("\r\n", "\n"), ran.wait(by_clock(RUN_LIMIT))
 
 
 def words_on_terminal(checks, wrapper):
@@ -187,6 +195,88 @@ def words_on_terminal(checks, wrapper):
         checks.same("the words on a terminal", [line for line in lines if line.startswith("lineage:")], said)
         order = [line.split()[:2] if line.startswith("block") else line.split()[1:3] for line in lines if line]
         checks.same("their order", order, sorted(order, key=lambda it: int(it[1])))
+
+
+# Words that are no command, where the folder has these files, and what is said of them: a part, and a part that isn't.
+FILES = ["in file", "2", "append"]
+DID_YOU_MEAN = "did you mean"
+READS_INPUT = "` reads standard input: "
+MISTYPED = [
+    (["append", "in file"], "`append` reads standard input: ./lineage append < 'in file'\n", DID_YOU_MEAN),
+    (["follow", "2"], "`follow` reads standard input: ./lineage follow < 2\n", DID_YOU_MEAN),
+    (["scan", "hist", "raw/a", "0", "2"], "standard input: ./lineage scan hist raw/a 0 < 2\n", DID_YOU_MEAN),
+    (["scan", "2", "hist", "raw/a", "0"], "standard input: ./lineage scan hist raw/a 0 < 2\n", DID_YOU_MEAN),
+    (["light", "in file"], "`light` reads standard input: ./lineage light < 'in file'\n", DID_YOU_MEAN),
+    (["pack", "in file"], "`pack [2]` reads standard input: ./lineage pack < 'in file'\n", DID_YOU_MEAN),
+    (["pack", "2", "in file"], "standard input: ./lineage pack 2 < 'in file'\n", DID_YOU_MEAN),
+    (["fmt", "append"], "`fmt [2]` reads standard input: ./lineage fmt < append\n", DID_YOU_MEAN),
+    (["verify", RAW_A_ROOT, "hist", "raw/a", "0", "2"], f"./lineage verify {RAW_A_ROOT} hist raw/a 0 < 2\n", DID_YOU_MEAN),
+    (["trace", "verify", RAW_A_ROOT, "raw/a", "0", "2"], f"trace verify {RAW_A_ROOT} raw/a 0 < 2\n", DID_YOU_MEAN),
+    (["range", "verify", RAW_A_ROOT, "raw/a", "0", "1", "2"], "raw/a 0 1 < 2\n", DID_YOU_MEAN),
+    (["append", "no file"], "these are 2 words, and the command is `append`", READS_INPUT),
+    (["append", "2", "2"], "these are 3 words, and the command is `append`", READS_INPUT),
+    (["scan", "hist", "RAW", "0", "2"], "these are 5 words", READS_INPUT),
+    (["root", "00", "2"], "these are 3 words, and the command is `root [BLOCK]`", READS_INPUT),
+    (["hits", "raw/a"], "did you mean `hist`?\n", READS_INPUT),
+    (["apend"], "did you mean `append`?\n", READS_INPUT),
+    (["ligth", "make"], "did you mean `light`?\n", READS_INPUT),
+    (["version"], "did you mean `--version`?\n", READS_INPUT),
+    (["--proof"], "did you mean `--prove`?\n", READS_INPUT),
+    (["x"], "`x` is no command", DID_YOU_MEAN),
+    (["", "2"], "`` is no command", DID_YOU_MEAN),
+    (["import"], "`import` is no command", DID_YOU_MEAN),
+]
+
+
+def mistyped_words(checks, wrapper):
+    """Of words that are no command it is said what was meant, as far as that can be seen; they end as ever."""
+    with tempfile.TemporaryDirectory() as folder:
+        for name in FILES:
+            with open(f"{folder}/{name}", "wb") as file:
+                file.write(SET_FILE)
+        for words, said, unsaid in MISTYPED:
+            streams = {"stdin": subprocess.DEVNULL, "capture_output": True, **limited(RUN_LIMIT)}
+            ran = subprocess.run([wrapper, *words], cwd=folder, **streams)
+            told = ran.stderr.decode()
+            checks.same(f"the status of {words}", (ran.stdout, ran.returncode), (b"usage\n", USAGE))
+            checks.holds(f"{told!r} of {words} has {said!r}", said in told and unsaid not in told)
+        streams = {"input": b"fn f() {}", "capture_output": True, **limited(RUN_LIMIT)}
+        ran = subprocess.run([wrapper, "fmt", "2"], cwd=folder, **streams)
+        checks.same("a command whose word is also a file", (ran.returncode, ran.stderr), (DONE, b""))
+        checks.same("files that the words leave", sorted(os.listdir(folder)), sorted(FILES))
+
+
+# The commands that print bytes; what is typed on the terminal, and whether they are shown then.
+FOR_A_FILE = [["gen", "1", "0"], ["light", "make"], ["pack"], ["pack", "2"]]
+TYPED = [(b"y\n", True), (b"Yes\n", True), (b"n\n", False), (b"\n", False), (b"yet\n", False), (b"\4", False)]
+# Lines on a terminal, which are no bytes.
+SHOWN_LINES = [["gen", "0", "0"], ["gen", "1", "00"], ["pack", "1"], ["light", "made"]]
+CANNOT_SHOW = "a terminal can't show what this prints"
+
+
+def bytes_on_terminal(checks, wrapper):
+    """What a terminal can't show is written there if it is asked for, and what a command reads is never taken for that;
+    elsewhere nothing is asked."""
+    printing = [command.form for command in commands.COMMANDS if command.prints_bytes]
+    checks.same("the commands that print bytes", sorted(printing), ["gen N SEED", "light make", "pack [2]"])
+    with tempfile.TemporaryDirectory() as folder:
+        for words in FOR_A_FILE:
+            text, status = on_terminal(wrapper, words, folder)
+            checks.same(f"the status of {words} on a terminal", status, NOT_SHOWN)
+            wanted = f"lineage: {CANNOT_SHOW}, which is for a file: ./lineage {' '.join(words)} > FILE\n"
+            checks.same(f"what {words} shows on a terminal", text, wanted)
+        for words in FOR_A_FILE:
+            for typed, is_shown in TYPED if words[0] != "pack" else [(b"y\n", False)]:
+                text, status = on_terminal(wrapper, words, folder, typed=typed)
+                name = f"{words} on a terminal where {typed} is typed"
+                checks.same(f"the status of {name}", status, DONE if is_shown else NOT_SHOWN)
+                checks.same(f"whether bytes are shown, {name}", "\0" in text, is_shown)
+        for words in SHOWN_LINES:
+            text, status = on_terminal(wrapper, words, folder)
+            checks.holds(f"{words} on a terminal: {text!r}", status == USAGE and CANNOT_SHOW not in text)
+        for words in (["gen", "1", "0"], ["light", "make"]):
+            ran = subprocess.run([wrapper, *words], cwd=folder, capture_output=True, **limited(RUN_LIMIT))
+            checks.same(f"the status of {words} elsewhere", (ran.returncode, ran.stderr), (DONE, b""))
 
 
 # What reads a part of the log, waits until it is told to go on or the log is gone, and prints in place of the program.
@@ -454,6 +544,8 @@ def check(checks, wrapper, make_tree):
     exports(checks, wrapper)
     sources_of_drafts(checks, wrapper)
     verifier_words(checks, wrapper)
+    mistyped_words(checks, wrapper)
+    bytes_on_terminal(checks, wrapper)
     words_for_statuses(checks, wrapper)
     words_in_both_editions(checks, wrapper)
     output_that_ends(checks, wrapper)

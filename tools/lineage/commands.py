@@ -1,7 +1,7 @@
 """The commands of the program: the list by which ./lineage goes. tools/checks/check-program holds README.md,
 docs/formats.md and the program to it. What a word may be is defined in crates/cli_words.
 """
-import re
+import os
 
 from lineage.statuses import (
     BAD_INPUT,
@@ -18,31 +18,48 @@ from lineage.statuses import (
 )
 
 KINDS = ("hist", "back", "fwd")
-# What a word in capitals stands for: what it may be, for a person, and as a pattern.
+LOWER, DIGITS = frozenset("abcdefghijklmnopqrstuvwxyz"), frozenset("0123456789")
+MAX_KEY_LENGTH = 64
 MAX_NUMBER = 4_294_967_295
 MAX_GENERATED_BLOCKS = 100_000
 EXAMPLE_ROOT = "41f6c6fc6bc756e479b796f7f09689670bee66ffad0189a20e5bf0574966869d"
 RECALL_ROOT = "c36b6bfd2dd652a721e6abe9223333c610a5b04e058325b35cf29fcea0a765ab"
 SHELF_ROOT = "67147f39e21239af7893de4772fd8c78606b074c5db50b70c793a08bed895c83"
-DECIMAL = "0|[1-9][0-9]{0,9}"
+
+
+def is_kind(word):
+    return word in KINDS
+
+
+def is_key(word):
+    return 1 <= len(word) <= MAX_KEY_LENGTH and LOWER | DIGITS | set("./_-") >= set(word)
+
+
+def is_root(word):
+    return len(word) == 64 and DIGITS | set("abcdef") >= set(word)
+
+
+def is_decimal(least=0, most=MAX_NUMBER):
+    """Whether a word is a number in digits without a leading zero."""
+
+    def is_it(word):
+        digits = 1 <= len(word) <= len(str(most)) and DIGITS >= set(word)
+        return digits and word == str(int(word)) and least <= int(word) <= most
+
+    return is_it
+
+
+# What a word in capitals stands for: what it may be, for a person, and whether one is.
 WORDS = {
-    "KIND": ("hist, back or fwd", "hist|back|fwd"),
-    "KEY": ("a key, which has 1 to 64 of a-z 0-9 . / _ -", "[a-z0-9./_-]{1,64}"),
-    "BLOCK": ("a number from 0 to 4294967295, in digits without a leading zero", DECIMAL),
-    "ROOTBLOCK": ("a number from 0 to 4294967295, in digits without a leading zero", DECIMAL),
-    "FROM": ("a number from 0 to TO, in digits without a leading zero", DECIMAL),
-    "TO": ("a number from 0 to 4294967295, in digits without a leading zero", DECIMAL),
-    "ROOT": ("a root, which is 64 of 0-9 a-f", "[0-9a-f]{64}"),
-    "N": ("a number from 1 to 100000, in digits without a leading zero", DECIMAL),
-    "SEED": ("a number from 0 to 4294967295, in digits without a leading zero", DECIMAL),
-}
-RANGES = {
-    "BLOCK": (0, MAX_NUMBER),
-    "ROOTBLOCK": (0, MAX_NUMBER),
-    "FROM": (0, MAX_NUMBER),
-    "TO": (0, MAX_NUMBER),
-    "N": (1, MAX_GENERATED_BLOCKS),
-    "SEED": (0, MAX_NUMBER),
+    "KIND": ("hist, back or fwd", is_kind),
+    "KEY": ("a key, which has 1 to 64 of a-z 0-9 . / _ -", is_key),
+    "BLOCK": ("a number from 0 to 4294967295, in digits without a leading zero", is_decimal()),
+    "ROOTBLOCK": ("a number from 0 to 4294967295, in digits without a leading zero", is_decimal()),
+    "FROM": ("a number from 0 to TO, in digits without a leading zero", is_decimal()),
+    "TO": ("a number from 0 to 4294967295, in digits without a leading zero", is_decimal()),
+    "ROOT": ("a root, which is 64 of 0-9 a-f", is_root),
+    "N": ("a number from 1 to 100000, in digits without a leading zero", is_decimal(1, MAX_GENERATED_BLOCKS)),
+    "SEED": ("a number from 0 to 4294967295, in digits without a leading zero", is_decimal()),
 }
 
 
@@ -62,6 +79,8 @@ class Command:
         # Whether it writes to the log, and so locks it.
         self.changes_log = uses.get("changes_log", False)
         self.uses_scratch = uses.get("uses_scratch", False)
+        # Whether it prints bytes that a terminal can't show.
+        self.prints_bytes = uses.get("prints_bytes", False)
         # Whether it checks a proof in hex, or proofs by a light file.
         self.checks_proof = self.input in (PROOF, TRACE_PROOF, RANGE_PROOF)
         self.checks_by_light = self.input is LIGHT
@@ -173,7 +192,6 @@ COMMANDS = [
         "./lineage upgrade",
         uses_log=True,
         changes_log=True,
-        uses_scratch=True,
     ),
     Command(
         "root [BLOCK]",
@@ -226,7 +244,6 @@ COMMANDS = [
         [*ANCESTORS, NO_BLOCK, NO_LOG],
         "./lineage trace raw/shop/s1 2",
         uses_log=True,
-        uses_scratch=True,
     ),
     Command(
         "trace prove KEY BLOCK ROOTBLOCK",
@@ -249,7 +266,6 @@ COMMANDS = [
         [*VERSIONS, NO_LAST_BLOCK, NO_LOG],
         "./lineage range raw/part/p1 0 2",
         uses_log=True,
-        uses_scratch=True,
     ),
     Command(
         "range prove KEY FROM TO ROOTBLOCK",
@@ -273,6 +289,7 @@ COMMANDS = [
         "./lineage light make > chain.light",
         uses_log=True,
         uses_scratch=True,
+        prints_bytes=True,
     ),
     Command(
         "light",
@@ -308,12 +325,14 @@ COMMANDS = [
         ],
         "./lineage pack < examples/supply-chain.json > supply-chain.blocks",
         input="a draft",
+        prints_bytes=True,
     ),
     Command(
         "gen N SEED",
         "a block file of N blocks, drawn from the number SEED",
         [],
         "./lineage gen 100 7 > drawn.blocks",
+        prints_bytes=True,
     ),
     Command(
         "load N SEED",
@@ -333,6 +352,8 @@ OWN_FORMS = [
     ("--version", "what the program was built from, and whether it is proved"),
 ]
 FORM_COLUMNS = 38
+# How near a word that is no command must be to one of a command, by difflib's ratio, so that it may have been meant.
+LEAST_NEAR = 0.7
 
 
 def listed():
@@ -347,7 +368,7 @@ def listed():
 def described(command):
     """What there is to know of a command."""
     lines = [command.form, f"  {command.meaning}"]
-    names = [name for name in WORDS if name in re.findall(r"\w+", command.form)]
+    names = [name for name in WORDS if name in max(command.forms(), key=len)]
     lines += [f"  {name} is {WORDS[name][0]}" for name in names]
     lines.append(f"  reads {command.input or 'no input'}" + (", and chain.log in this folder" * command.uses_log))
     lines.append("  prints" if command.lines else "  prints a block file")
@@ -359,12 +380,7 @@ def described(command):
 
 def may_be(name, word):
     """Whether a word may stand for a word of a form."""
-    if name not in WORDS:
-        return word == name
-    if not re.fullmatch(WORDS[name][1], word):
-        return False
-    least, most = RANGES.get(name, (0, 0))
-    return name not in RANGES or least <= int(word) <= most
+    return WORDS[name][1](word) if name in WORDS else word == name
 
 
 def has_form(words):
@@ -403,13 +419,36 @@ def first_words():
     return sorted(set(KINDS).union(names) - {"KIND"})
 
 
+def near_word(word):
+    """The first word of a command, or of what ./lineage does itself, that this one is nearest to; none where none is
+    near."""
+    import difflib
+
+    names = [*first_words(), *(form.split()[0] for form, _ in OWN_FORMS)]
+    return next(iter(difflib.get_close_matches(word, names, 1, LEAST_NEAR)), None)
+
+
+def input_as_word(words):
+    """How a command is given its input, where one of the words is the name of a file and the others are a command that
+    reads standard input; nothing else."""
+    for at in reversed(range(1, len(words))):
+        others = words[:at] + words[at + 1 :]
+        command = command_of(others)
+        if command and command.reads_input and os.path.isfile(words[at]) and not what_is_wrong(others):
+            import shlex
+
+            return f"`{command.form}` reads standard input: ./lineage {' '.join(others)} < {shlex.quote(words[at])}"
+    return None
+
+
 def what_is_wrong(words):
     """Which of the words is wrong, and what it may be; nothing where there are no words."""
     commands = beginning_with(words)
     if not words:
         return None
     if not commands:
-        return f"`{words[0]}` is no command; the first word is one of {', '.join(first_words())}"
+        said = f"`{words[0]}` is no command; the first word is one of {', '.join(first_words())}"
+        return f"{said}\ndid you mean `{meant}`?" if (meant := near_word(words[0])) else said
     command = command_of(words)
     if not command:
         forms = " or ".join(f"`{each.form}`" for each in commands)

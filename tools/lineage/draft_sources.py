@@ -9,7 +9,8 @@ import re
 import stat
 
 from lineage.draft_faults import MAX_SOURCE_BYTES as MAX_TEXT_BYTES
-from lineage.lineage_messages import MAX_SOURCE_BYTES, say
+from lineage.lineage_input import MAX_SOURCE_BYTES
+from lineage.saying import say
 
 WORD = b"source_file"
 STRING = rb'"(?:[^"\\]|\\.)*"'

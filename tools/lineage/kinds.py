@@ -1,8 +1,6 @@
 """What a file is, by how it begins, and what to do with one that was given to another command or as the log."""
 import re
 
-# So much of a file is looked at.
-FIRST_BYTES = 4_096
 MAX_BLOCK_BYTES = 1_048_576
 MAGIC_OF_LOG = b"LCLOG1\n"
 MAGIC_OF_PROOF = b"LCP1"

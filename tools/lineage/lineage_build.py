@@ -8,10 +8,10 @@ import re
 import shutil
 import subprocess
 
-from lineage import programs, quick_build
-from lineage.lineage_messages import say
+from lineage import programs, quick_build, sources, toolchain
 from lineage.programs import PROVED, UNPROVED
 from lineage.progress import Progress, minutes
+from lineage.saying import say
 from places import TOP
 
 LOG = f"{TOP}/out/lineage.log"
@@ -28,7 +28,7 @@ QUICK_PERIOD = 20
 
 def has_toolchain():
     """Whether the toolchain is there, which is said if not."""
-    if shutil.which("rt"):
+    if toolchain.tool():
         return True
     say("the Rattle toolchain isn't there to build the program: no `rt` on the path")
     return False
@@ -36,6 +36,8 @@ def has_toolchain():
 
 def kit():
     """Which toolchain this is, in its own words."""
+    if name := toolchain.name():
+        return name
     words = {"stdin": subprocess.DEVNULL, "capture_output": True, "text": True}
     with contextlib.suppress(OSError):
         return subprocess.run(["rt", "version"], **words).stdout.strip() or "unknown"
@@ -55,9 +57,9 @@ def one_at_a_time(path):
         yield file
 
 
-def has_changed(sources):
+def has_changed(digest):
     """Whether the sources are others than those of this digest, which is said."""
-    if programs.digest_of_sources() == sources:
+    if sources.digest_of_sources() == digest:
         return False
     say("the sources changed meanwhile; start again")
     return True
@@ -68,11 +70,11 @@ def has_changed(sources):
 
 def ensure_program():
     """The program that answers, which is built without its proofs where none does; none where that fails."""
-    found = programs.present()
-    if found or not has_toolchain():
-        return found
-    why = "the sources are others than those that were proved" if PROVED.words() else "nothing is proved here"
-    slower = "it is some five times slower than the proved one"
+    present = programs.Present()
+    if present.program or not has_toolchain():
+        return present.program
+    why = present.change or "nothing is proved here"
+    slower = "it is some four times slower than the proved one"
     say(f"{why}; building the program without its proofs, which takes some two minutes; {slower}")
     return build_unproved(UNPROVED)
 
@@ -83,7 +85,7 @@ def build_unproved(program):
     with one_at_a_time(f"{folder}/lock"):
         if programs.is_current(program):
             return program
-        sources = programs.digest_of_sources()
+        digest = sources.digest_of_sources()
         room, built = f"{folder}/room", f"{folder}/new"
         shutil.rmtree(room, ignore_errors=True)
         os.mkdir(room)
@@ -94,10 +96,10 @@ def build_unproved(program):
             return None
         finally:
             shutil.rmtree(room, ignore_errors=True)
-        if has_changed(sources):
+        if has_changed(digest):
             return None
         os.replace(built, program.path)
-        program.take_mark(sources, kit())
+        program.take_mark(digest, kit())
         return program
 
 
@@ -132,7 +134,7 @@ def crates_below(name):
     while waiting:
         crate = waiting.pop()
         if crate in below and crate not in found:
-            code = programs.files_below(f"{TOP}/crates/{crate}/src")
+            code = sources.files_below(f"crates/{crate}/src")
             found[crate] = LEAST_BYTES + sum(map(os.path.getsize, code))
             waiting += below[crate]
     return found
@@ -222,11 +224,11 @@ def prove():
         if programs.present() is PROVED:
             return True
         log.truncate(0)
-        sources = programs.digest_of_sources()
+        digest = sources.digest_of_sources()
         if not build_proved(log) or not os.path.exists(PROVED.path):
             return report_failure(log)
-        if has_changed(sources):
+        if has_changed(digest):
             return False
-        PROVED.take_mark(sources, kit())
+        PROVED.take_mark(digest, kit())
     say("proved; from now on `./lineage` runs the proved program")
     return True

@@ -1,29 +1,14 @@
 """Standard input of ./lineage where it can be read only once: it is kept, so that what is wrong with it
 can be said.
 """
-import fcntl
 import os
 import select
-import stat
-import struct
-import termios
 
-from lineage.lineage_messages import MAX_SOURCE_BYTES
-
+# The most bytes that a command reads which reads its whole input.
+MAX_SOURCE_BYTES = 67_108_864
 # How much of an input is kept that is handed on as it comes, and how much is read of it at once.
 MAX_KEPT_BYTES = 1 << 26
 PART_BYTES = 1 << 16
-
-
-def is_pipe():
-    """Whether standard input is a pipe."""
-    return stat.S_ISFIFO(os.fstat(0).st_mode)
-
-
-def is_read_once():
-    """Whether standard input is a pipe, a socket or a terminal."""
-    mode = os.fstat(0).st_mode
-    return stat.S_ISFIFO(mode) or stat.S_ISSOCK(mode) or stat.S_ISCHR(mode)
 
 
 def keep_input():
@@ -81,6 +66,10 @@ class Relay:
         """Puts what was read in the place of standard input, as far as the process took it; answers
         whether all of it was kept."""
         if self.is_kept:
+            import fcntl
+            import struct
+            import termios
+
             (left,) = struct.unpack("i", fcntl.ioctl(self.output, termios.FIONREAD, bytes(4)))
             os.dup2(self.kept, 0)
             os.lseek(0, self.count - left, os.SEEK_SET)

@@ -12,9 +12,9 @@ import stat
 import subprocess
 
 from lineage import commands, kinds, locks
+from lineage.log_file import FIRST_BYTES, LOG_FILE, first_bytes, is_zeroed
+from lineage.saying import say
 
-LOG_FILE = "chain.log"
-MAX_SOURCE_BYTES = 67_108_864
 MAX_BLOCK_BYTES = 1_048_576
 LENGTH_BYTES = 4
 # What is longer isn't run again for a message.
@@ -25,8 +25,6 @@ OPEN = b"\xa5"
 MAGIC = b"LCLOG1\n"
 # The record of a log that has no block: the blocks after it have the second version.
 MARK = bytes(LENGTH_BYTES)
-# What a crash leaves of a log that is being made has at most a head: two gates and the magic.
-HEAD_BYTES = 9
 EXAMPLE = "./lineage scan hist raw/a 0 < examples/one-set.blocks"
 PACK_FIRST = kinds.advice(b"[", kinds.BLOCK_FILE)
 SENTENCES = {
@@ -122,13 +120,6 @@ NO_LIGHT = "the input doesn't begin with a light file, or ends within it; `./lin
 IN_HEX = "it is in hex, and a proof stands behind its length as bytes: xxd -r -p < PROOF"
 
 
-def say(text):
-    """Writes on standard error, where there is one."""
-    lines = text.replace("\n", "\n  ")
-    with contextlib.suppress(OSError):
-        os.write(2, f"lineage: {lines}\n".encode(errors="backslashreplace"))
-
-
 def explain(program, status, words, start):
     """Says what a status other than 0 means. What the program read begins at the offset `start` of
     standard input, where it can be read again."""
@@ -157,7 +148,7 @@ def explain(program, status, words, start):
 
 def usage_sentence(words):
     """What is wrong with words, and what the commands are, where not even the first word is one's."""
-    wrong = commands.what_is_wrong(words)
+    wrong = commands.input_as_word(words) or commands.what_is_wrong(words)
     shown = commands.beginning_with(words)
     lines = [wrong] if wrong else []
     if shown:
@@ -182,29 +173,10 @@ def beyond_sentence(words):
 # ---- a log whose first byte was zeroed
 
 
-def first_bytes():
-    """How many bytes the log has, and the first of them; none where it is no file that can be read."""
-    with contextlib.suppress(OSError):
-        # So that opening a pipe doesn't wait.
-        log = os.open(LOG_FILE, os.O_RDONLY | os.O_NONBLOCK)
-        with os.fdopen(log, "rb") as file:
-            found = os.fstat(log)
-            if stat.S_ISREG(found.st_mode):
-                return found.st_size, file.read(kinds.FIRST_BYTES)
-    return 0, b""
-
-
-def is_zeroed():
-    """Whether the log begins with a zero, so that it stands for no block and a command that changes it writes over
-    it, and yet has more than a crash leaves of a log that is being made."""
-    size, first = first_bytes()
-    return size > HEAD_BYTES and first[:1] == b"\0"
-
-
 def no_log_sentence():
     """What stands in the place of the log."""
     with contextlib.suppress(OSError), open(LOG_FILE, "rb") as file:
-        advice = kinds.advice(file.read(kinds.FIRST_BYTES), kinds.LOG, LOG_FILE)
+        advice = kinds.advice(file.read(FIRST_BYTES), kinds.LOG, LOG_FILE)
         if advice:
             return f"{NO_LOG}; move it away\n{advice}"
     return f"{NO_LOG}; docs/log.md says what to do"
@@ -313,7 +285,7 @@ def refused_sentence(program, words, start):
 def kind_advice(words, start):
     """What the input is, where it is of another kind than the command reads, and what to do then."""
     with contextlib.suppress(OSError):
-        return kinds.advice(os.pread(0, kinds.FIRST_BYTES, start), kinds.READS.get(words[0]))
+        return kinds.advice(os.pread(0, FIRST_BYTES, start), kinds.READS.get(words[0]))
     return ""
 
 

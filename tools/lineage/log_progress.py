@@ -2,8 +2,9 @@
 import contextlib
 import os
 
-from lineage.lineage_messages import LOG_FILE, say
+from lineage.log_file import LOG_FILE
 from lineage.progress import Progress
+from lineage.saying import say
 
 MEGABYTE = 1_000_000
 

@@ -7,8 +7,8 @@ import shutil
 import subprocess
 
 from lineage import commands, lineage_build, programs
-from lineage.lineage_messages import say
 from lineage.programs import PROVED
+from lineage.saying import say
 from lineage.statuses import DONE, NOT_BUILT, NOT_INSTALLED, NOT_PROVED, UNTOLD, USAGE
 from places import TOP
 
@@ -35,8 +35,9 @@ def wrong_words(form):
 
 def say_not_proved():
     """Says that there is no proved program."""
-    if PROVED.words():
-        say("the sources are others than those that were proved; `./lineage --prove` proves what changed")
+    change = programs.Present().change
+    if change:
+        say(f"{change}; `./lineage --prove` proves what changed")
     else:
         say("there is no proved program here; `./lineage --prove` proves and builds it")
     return NOT_PROVED

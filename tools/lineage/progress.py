@@ -1,10 +1,11 @@
 """How far something is that takes long, on standard error: on a terminal a line that is renewed, elsewhere a line
 now and then.
 """
-import contextlib
 import os
 import signal
 import time
+
+from lineage.saying import renew
 
 # How often it is said, in seconds: on a terminal, and elsewhere.
 TERMINAL_PERIOD = 1
@@ -29,12 +30,15 @@ class Progress:
         self.period = TERMINAL_PERIOD if self.is_terminal else plain_period
 
     def __enter__(self):
-        signal.signal(signal.SIGALRM, lambda *_: self.show())
-        signal.setitimer(signal.ITIMER_REAL, self.period, self.period)
+        self.begin()
         return self
 
     def __exit__(self, *_):
         self.end()
+
+    def begin(self):
+        signal.signal(signal.SIGALRM, lambda *_: self.show())
+        signal.setitimer(signal.ITIMER_REAL, self.period, self.period)
 
     def end(self):
         signal.setitimer(signal.ITIMER_REAL, 0)
@@ -54,9 +58,3 @@ class Progress:
             self.is_shown = True
         else:
             self.say(text)
-
-
-def renew(line):
-    """Writes a line of a terminal in the place of the one that is there."""
-    with contextlib.suppress(OSError):
-        os.write(2, f"\r\x1b[K{line}".encode())

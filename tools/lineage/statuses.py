@@ -19,5 +19,6 @@ MEANINGS = {
     SCRATCH_FAULT: "the scratch file can't be made, written or read",
 }
 # The wrapper's own: the program wasn't built, or its proofs failed; a command that changes the log would write over one
-# whose first byte was zeroed; there is no proved program of the sources as they are; it can't be copied.
-NOT_BUILT, ZEROED_LOG, NOT_PROVED, NOT_INSTALLED = range(70, 74)
+# whose first byte was zeroed; there is no proved program of the sources as they are; it can't be copied; bytes weren't
+# written, since a terminal can't show them.
+NOT_BUILT, ZEROED_LOG, NOT_PROVED, NOT_INSTALLED, NOT_SHOWN = range(70, 75)

@@ -1,35 +1,14 @@
-"""What `append` and `follow` tell of transactions that failed, in words, as their lines come: one line on standard
-error for each status above 0.
-
-Where standard output is a pipe or a terminal, the lines of the program are read here and handed on as they come;
-of a file what was written is read after the run, and the program writes it itself. What a transaction is, is read
-from its block in the log, by docs/formats.md; what cannot be read there is left out.
+"""What `append` and `follow` tell of transactions that failed, in words: one line on standard error for each status
+above 0. What a transaction is, is read from its block in the log, by docs/formats.md; what cannot be read there is
+left out.
 """
 import contextlib
-import fcntl
-import os
-import re
-import signal
-import stat
 
 from lineage import kinds
-from lineage.lineage_messages import (
-    FIRST_GATE,
-    LENGTH_BYTES,
-    LOG_FILE,
-    MARK,
-    OPEN,
-    contract_sentence,
-    printed_over,
-    say,
-)
-from lineage.progress import renew
+from lineage.lineage_messages import FIRST_GATE, LENGTH_BYTES, MARK, OPEN, contract_sentence, printed_over
+from lineage.log_file import LOG_FILE
+from lineage.saying import say
 
-# The least that a pipe may hold, so that the program is not far ahead of what is handed on.
-PIPE_BYTES = 4_096
-PART_BYTES = 1 << 16
-# In its process it reads them from this descriptor.
-INPUT = 0
 OK = 0
 SET, DEPLOY, CALL = 1, 2, 3
 BAD_SOURCE = 16
@@ -160,21 +139,18 @@ class Log:
 
 
 class Words:
-    """Says of the lines of `append` and `follow` what the statuses in them mean."""
+    """Says what the statuses of blocks mean."""
 
     def __init__(self, program):
         self.program, self.log = program, Log()
 
-    def take(self, line):
-        """Takes a line."""
-        found = re.match(rb"block (\d+) rows \d+ status ([\d,]+) root ", line)
-        if found and re.search(rb"[1-9]", found[2]):
-            block, statuses = int(found[1]), [int(status) for status in found[2].split(b",")]
-            txs = self.log.txs(block)
-            for tx, status in enumerate(statuses):
-                if status != OK:
-                    kind, fields = txs[tx] if tx < len(txs) else (None, {})
-                    say(f"block {block} tx {tx}: {self.words(status, kind, fields)}")
+    def take(self, block, statuses):
+        """Takes the statuses of a block's transactions."""
+        txs = self.log.txs(block)
+        for tx, status in enumerate(statuses):
+            if status != OK:
+                kind, fields = txs[tx] if tx < len(txs) else (None, {})
+                say(f"block {block} tx {tx}: {self.words(status, kind, fields)}")
 
     def words(self, status, kind, fields):
         """What a status means, of a transaction of a kind."""
@@ -186,87 +162,3 @@ class Words:
             printed = printed_over(self.program, ["fmt", *edition], [fields["source"]])
             text += f": {contract_sentence(fields['source'], printed, 'its source')}"
         return f"{name} ({status}): {text}"
-
-
-# ---- standard output
-
-
-class Relay:
-    """A process that reads what the program prints, hands it on as it comes, and says its words."""
-
-    def __init__(self, words):
-        given, self.output = os.pipe()
-        with contextlib.suppress(OSError):
-            fcntl.fcntl(given, fcntl.F_SETPIPE_SZ, PIPE_BYTES)
-        self.process = os.fork()
-        if not self.process:
-            status = 1
-            try:
-                take_process(given)
-                status = hand_on(INPUT, words)
-            finally:
-                os._exit(status)
-        os.close(given)
-
-    def end(self):
-        """Whether all was handed on; the program has ended by then."""
-        return os.waitpid(self.process, 0)[1] == 0
-
-
-def take_process(given):
-    """Leaves this process nothing but what it reads, and its outputs. It ends with the program, whose lines it has,
-    and not by a signal."""
-    for number in (signal.SIGINT, signal.SIGTERM, signal.SIGHUP):
-        signal.signal(number, signal.SIG_IGN)
-    os.dup2(given, INPUT)
-    os.closerange(max(INPUT, 2) + 1, os.sysconf("SC_OPEN_MAX"))
-
-
-def hand_on(given, words):
-    """Hands on line by line what comes, until there is no more, or standard output takes no more; answers the exit
-    status of that."""
-    rest, is_terminal = b"", os.isatty(2)
-    try:
-        while part := os.read(given, PART_BYTES):
-            if is_terminal:
-                # Over what was said of how far the program is.
-                renew("")
-            *lines, rest = (rest + part).split(b"\n")
-            for line in lines:
-                write(line + b"\n")
-                words.take(line)
-        write(rest)
-    except OSError:
-        return 1
-    return 0
-
-
-def write(part):
-    """Writes all of a part on standard output."""
-    while part:
-        part = part[os.write(1, part) :]
-
-
-def is_relayed():
-    """Whether standard output is one that can't be read again, and takes what it is given: a pipe, a socket or a
-    terminal."""
-    mode = os.fstat(1).st_mode
-    return stat.S_ISFIFO(mode) or stat.S_ISSOCK(mode) or os.isatty(1)
-
-
-def output_end():
-    """Where in the file of standard output the next byte is written; none where it is no file."""
-    with contextlib.suppress(OSError):
-        found = os.fstat(1)
-        if stat.S_ISREG(found.st_mode):
-            is_at_end = fcntl.fcntl(1, fcntl.F_GETFL) & os.O_APPEND
-            return found.st_size if is_at_end else os.lseek(1, 0, os.SEEK_CUR)
-    return None
-
-
-def say_of_file(start, words):
-    """Says the words of the lines that were written to the file of standard output from an offset on."""
-    with contextlib.suppress(OSError), open("/proc/self/fd/1", "rb") as file:
-        file.seek(start)
-        for line in file:
-            words.take(line)
