@@ -12,9 +12,10 @@ from cases.block_files import OK, block_file, calls, deploys, sets
 from cases.growing_roots import growing_roots
 from cases.log_cases import DISK_FAULT, DONE, SCRATCH_FAULT, frames_of, log_of, upgraded
 from cases.proof_cases import proof_of
-from cases.range_cases import range_proof_of
+from cases.range_cases import range_of, range_proof_of
 from cases.root_cases import History, Row, block_digests
 from cases.trace_cases import trace_proof_of
+from cases.verifier import told_of
 from checks.disk_calls import CREATE, NEW, TRUNCATE, get, put
 from checks.edge_calls import ERRORS, FRAMES, LINES, QUESTION, goes_on, run_again, some_of_each_kind
 from checks.lock_checks import give, running_append
@@ -65,8 +66,6 @@ READING_BACK = PROVED | TRACED | RANGED
 RUNS = [
     ("append", RECALL_FILE, None, "".join(LINES)),
     ("append", RECALL_FILE, log_of(FRAMES[0]), "".join(known_lines(1) + LINES[1:])),
-    (S1.decode(), b"", RECALL_LOG, MADE_FROM),
-    (OF_PART.decode(), b"", RECALL_LOG, BATCH),
     ("light make", b"", RECALL_LOG, RECALL_LIGHT.decode("latin-1")),
     *[(words, b"", RECALL_LOG, earlier_proof(RECALL_ROWS, FRAMES, row.key)) for words, row in PROVED.items()],
     *[(words, b"", RECALL_LOG, earlier_trace(RECALL_ROWS, FRAMES, row.key)) for words, row in TRACED.items()],
@@ -75,7 +74,12 @@ RUNS = [
 
 
 # Runs over a log that make none: the words, and what is told.
-WITHOUT_FILE = [("upgrade", upgraded(len(FRAMES))), (QUESTION, USED)]
+WITHOUT_FILE = [
+    ("upgrade", upgraded(len(FRAMES))),
+    (QUESTION, USED),
+    (S1.decode(), MADE_FROM),
+    (OF_PART.decode(), BATCH),
+]
 
 
 class Moves:
@@ -283,13 +287,14 @@ def versions_read_back(checks, watched):
     rows = [Row(key, at, 0, TEXT.format(at), []) for at in range(ROWS)]
     file = block_file([[sets(row.key, row.value)] for row in rows])
     log, history, root_at = log_of(file), History(rows), ROWS - 1
-    digest = block_digests(frames_of(file))[root_at]
+    *_, root = growing_roots(frames_of(file), rows)
     sizes = [body_size(history, row) for row in rows]
     for first, last, is_read in [(0, FIRST_VERSIONS - 1, True), (ROWS - LAST_VERSIONS, ROWS - 1, False)]:
         words = f"range prove {key} {first} {last} {root_at}"
         ran = watched.run(words, log=log, LOG=SCRATCH)
-        proof = range_proof_of(history, digest, key, first, last, root_at).hex() + "\n"
-        checks.same(words, (ran.told, ran.status), (proof, DONE))
+        checks.same(f"the status of {words}", ran.status, DONE)
+        shown = told_of(["range", "verify", root, key, str(first), str(last)], ran.told.encode())
+        checks.same(f"what is shown by {words}", shown, (range_of(rows, key, first, last), DONE))
         reads = sorted((call.at, call.size) for call in ran.calls if call.name == "pread")
         wanted = [(sum(sizes[:at]), sizes[at]) for at in range(first, last + 1) if is_read]
         checks.same(f"what is read back by {words}", reads, wanted)
