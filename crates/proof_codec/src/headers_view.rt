@@ -1,14 +1,14 @@
-//! Headers are checked once, when the list is read; afterwards each can be read again from the same
-//! bytes.
+//! Headers are checked once, when the list is read, and the block of the last one is kept;
+//! afterwards each can be read again from the same bytes.
 
-ghost use Rattle.std.specs.Prelude.{◌≡◌, ◌∷◌, [], length, MatchOption};
+ghost use Rattle.std.specs.Prelude.{◌≡◌, ◌∷◌, [], length, IfOk, MatchOption};
 ghost use Rattle.entry_views.specs.{
-  byte_fields.Reader.{fault_left, Reads},
+  byte_fields.Reader.{fault_left, Reads, ReadsAs},
   byte_fields.Reading.{items_at},
-  Items.{Skips},
+  Items.{items_read},
   Reading.{header_at},
 };
-ghost use Rattle.proof_codec.specs.Reading.{headers_at};
+ghost use Rattle.proof_codec.specs.{Last.{last_block}, Reading.{headers_at}};
 
 use entry_views::{Fault, HeaderView, Reader};
 use std::marker::Model;
@@ -18,6 +18,8 @@ use std::marker::Model;
 pub struct HeadersView<'p> {
     count: u32,
     reader: Reader<'p>,
+    /// The block of the last header; of no meaning if none is left.
+    last_block: Option<u32>,
 }
 
 impl<'p> Model for HeadersView<'p> {
@@ -26,12 +28,14 @@ impl<'p> Model for HeadersView<'p> {
     ghost use Rattle.entry_views.specs.byte_fields.Reading.{items_at};
     ghost use Rattle.entry_views.specs.Items.{items_read, AreRead};
     ghost use Rattle.entry_views.specs.Reading.{header_at};
+    ghost use Rattle.proof_codec.specs.Last.{IsOfLast};
 
     ghost Value = { List Item };
 
     ghost view = { λ headers. items_read (items_at header_at headers.count headers.reader) };
 
-    ghost invariant = { λ headers. AreRead (items_at header_at headers.count headers.reader) };
+    ghost invariant = { λ headers. AreRead (items_at header_at headers.count headers.reader)
+        × IsOfLast headers.last_block (items_read (items_at header_at headers.count headers.reader)) };
 }
 
 impl<'p> HeadersView<'p> {
@@ -43,6 +47,16 @@ impl<'p> HeadersView<'p> {
         self.count as usize
     }
 
+    /// The block of the last header, or `None` if the list is empty. No header is read.
+    pub fn last_block(&self) -> Option<u32>
+        ensures { result ≡ last_block self.now }
+    {
+        if self.count == 0 {
+            return None;
+        }
+        self.last_block
+    }
+
     /// A second view of the same headers.
     pub fn again(&self) -> HeadersView<'p>
         ensures { result ≡ self.now }
@@ -50,6 +64,7 @@ impl<'p> HeadersView<'p> {
         HeadersView {
             count: self.count,
             reader: Reader::new(self.reader.rest()),
+            last_block: self.last_block,
         }
     }
 
@@ -70,13 +85,17 @@ impl<'p> HeadersView<'p> {
     }
 }
 
-fn skip_headers(reader: &mut Reader, count: u32) -> Result<(), Fault>
-    ensures { Skips result (items_at header_at count reader.old) reader.new }
+/// Reads past `count` headers. The block of the last of them, or `None` if there are none.
+fn skip_headers(reader: &mut Reader, count: u32) -> Result<Option<u32>, Fault>
+    ensures skips { ReadsAs (λ last. items_read (items_at header_at count reader.old)) fault_left result (items_at header_at count reader.old) reader.new }
+    ensures last { IfOk result (λ last. last ≡ last_block (items_read (items_at header_at count reader.old))) }
 {
+    let mut last = None;
     for _ in 0..count {
-        HeaderView::read(reader)?;
+        let header = HeaderView::read(reader)?;
+        last = Some(header.fields().block);
     }
-    Ok(())
+    Ok(last)
 }
 
 /// Reads `count` headers, whose number the caller has read.
@@ -84,10 +103,11 @@ pub fn read_each_header<'p>(reader: &mut Reader<'p>, count: u32) -> Result<Heade
     ensures { Reads fault_left result (items_at header_at count reader.old) reader.new }
 {
     let headers = Reader::new(reader.rest());
-    skip_headers(reader, count)?;
+    let last_block = skip_headers(reader, count)?;
     Ok(HeadersView {
         count,
         reader: headers,
+        last_block,
     })
 }
 

@@ -98,12 +98,10 @@ impl<'p> ProofView<'p> {
 fn is_answered(headers: &HeadersView, at: u32) -> bool
     ensures { result ≡ is_answer at (last_of headers.now) }
 {
-    let mut rest = headers.again();
-    let mut answered = false;
-    while let Some(header) = rest.next() {
-        answered = header.fields().block <= at;
+    match headers.last_block() {
+        None => false,
+        Some(block) => block <= at,
     }
-    answered
 }
 
 fn body_if<'p>(reader: &mut Reader<'p>, there: bool) -> Result<Option<BodyView<'p>>, Fault>
