@@ -1,10 +1,12 @@
 -- What `light` prints for a proof that it accepts is the answer of each chain of which the light
 -- file is, unless texts clash; and what `light make` prints is the light file of its blocks.
 use Rattle.std.proofs.Common.{◌≡◌, ℕ, zero, suc, ◌+◌, ◌-◌, ◌*◌, ◌≤◌, List, [], ◌∷◌, ◌++◌}
-use Rattle.std.specs.Prelude.{IfOk}
+use Rattle.std.specs.Prelude.{IfOk, MatchOption, slice_get}
 use Rattle.std.proofs.Common.{length, map, Option, Some, Result, Ok, Err, refl, sym, ap, ◌∙◌}
 use Rattle.std.proofs.Common.{subst, arith, append_assoc}
 use Rattle.std.specs.Int.{div_ceil}
+use Rattle.std.proofs.lemmas.List.{length-map}
+use Rattle.root_laws.specs.Root.{root_of}
 use Rattle.std.proofs.lemmas.Grind.{div_ceil_times}
 use Rattle.std.specs.List.{concat, flat_map, range_with_len}
 use Rattle.lc_base.specs.declared.digest.Digest.{Digest}
@@ -16,15 +18,19 @@ use Rattle.block_codec.specs.declared.limits.TheConstants.{MAX_FRAMES}
 use Rattle.block_codec.proofs.FrameBytes.{frame_bytes}
 use Rattle.block_codec.specs.declared.block.Block.{Block}
 use Rattle.chain_exec.specs.Replay.{replay}
-use Rattle.cli_output.specs.replay_soundness.LightSoundness.{AnswersByFile}
+use Rattle.chain_exec.specs.Compiled.{Compiler, IsCompiler}
+use Rattle.cli_output.specs.replay_soundness.LightSoundness.{AnswersByFile, IsFileOfChain}
+use Rattle.cli_output.specs.replay_soundness.TypedChains.{IsLawfulChain}
 use Rattle.light_client.specs.Checking.{LightAnswer}
 use Rattle.light_client.specs.Checking.{light_verdict}
 use Rattle.light_client.specs.Format.{head_bytes, light_bytes, light_in}
 use Rattle.light_client.specs.declared.block_root.BlockRoot.{BlockRoot}
 use Rattle.light_client.specs.declared.reject.LightReject.{LightReject}
 use Rattle.cli_output.proofs.replay_soundness.LightSound.{light_answers_are_of_replays}
+use Rattle.cli_output.proofs.replay_soundness.Made.{made_proofs_are_accepted_by_files}
 use Rattle.byte_fields.proofs.Laws.{IsBytes-after}
 use Rattle.light_client.proofs.Files.{read_files_are_written}
+use Rattle.light_client.proofs.Made.{length-block_roots_of, block_roots_are_of_their_blocks}
 use Rattle.light_client.proofs.Verdicts.{verdict_holds}
 use Rattle.light_client.proofs.Pieces.{pieces_make_the_file}
 use Rattle.light_client.specs.Making.{piece_bytes}
@@ -33,9 +39,9 @@ use Rattle.cli_append.specs.cli_promises.Promises.{Line, plain}
 use Rattle.chain_input.specs.Folding.{FoldEnd}
 use Rattle.cli_output.specs.Frames.{framed, framed_from, framed_step}
 use Rattle.cli_output.specs.Lights.{proof_lines, all_proof_lines, refused_lines, light_pieces}
-use Rattle.cli_output.specs.Output.{light_outcome}
+use Rattle.cli_output.specs.Output.{light_outcome, make_light_output, told_bytes}
 use Rattle.cli_output.specs.Showing.{IsProofTold, AreProofsTold, LightAnswersHold}
-use Rattle.cli_output.specs.Showing.{MadeLightFilesAreWhole}
+use Rattle.cli_output.specs.Showing.{MadeLightFilesAreWhole, light_file_of}
 
 -- ---- the frames of bytes are bytes
 
@@ -131,8 +137,10 @@ enough_pieces : (blocks : ℕ) → blocks ≤ BLOCKS_PER_PIECE * div_ceil blocks
 enough_pieces blocks =
     let room = (div_ceil_times blocks BLOCKS_PER_PIECE (omega arith)).0 in omega (arith, room)
 
-pub made_light_files_are_whole : MadeLightFilesAreWhole
-made_light_files_are_whole compile blocks input =
+printed_whole : (compile : Compiler) (blocks : List Block) (input : List ℕ)
+    → told_bytes (make_light_output compile input blocks)
+    ≡ light_bytes (light_file_of compile blocks)
+printed_whole compile blocks input =
     let rows : List Row = (replay compile blocks).rows in
     let digests : List Digest = map digest_of blocks in
     let count : ℕ = div_ceil (length digests) BLOCKS_PER_PIECE in
@@ -141,3 +149,41 @@ made_light_files_are_whole compile blocks input =
     (concat_map (λ index. piece_bytes rows digests (BLOCKS_PER_PIECE * index))
     (range_with_len 0 count))
     ∙ pieces_make_the_file rows digests count (enough_pieces (length digests))
+
+-- ---- the file of a chain
+
+file_of_chain : (compile : Compiler) (blocks : List Block) → IsCompiler compile
+    → IsLawfulChain compile blocks → IsFileOfChain compile blocks (light_file_of compile blocks)
+file_of_chain compile blocks right chain =
+    let rows : List Row = (replay compile blocks).rows in
+    let digests : List Digest = map digest_of blocks in
+    let P = λ (at : ℕ) (found : Option BlockRoot). MatchOption found (length digests ≤ at)
+    (λ (block_root : BlockRoot). (slice_get digests at ≡ Some block_root.digest)
+    × (block_root.root.0 ≡ root_of rows digests at)) in
+    record {
+      right = right;
+      chain = chain;
+      file_is = record {
+        few = omega (arith, length-block_roots_of rows digests);
+        digests_are = λ at block_root there.
+            (subst (P at) there (block_roots_are_of_their_blocks rows digests at)).0;
+        roots_are = λ at block_root there.
+            sym (subst (P at) there (block_roots_are_of_their_blocks rows digests at)).1;
+      };
+    }
+
+pub made_light_files_are_whole : MadeLightFilesAreWhole
+made_light_files_are_whole compile blocks input = record {
+  printed = printed_whole compile blocks input;
+  of_chain = file_of_chain compile blocks;
+  accepts = λ right chain block query below key early.
+      made_proofs_are_accepted_by_files compile blocks (light_file_of compile blocks) block query
+      (file_of_chain compile blocks right chain)
+      (omega (
+        arith,
+        below,
+        length-block_roots_of (replay compile blocks).rows (map digest_of blocks),
+        length-map blocks digest_of,
+      ))
+      key early;
+}

@@ -19,6 +19,8 @@ use Rattle.cli_lines.specs.declared.status.Status.TheVariants as statuses
 use Rattle.cli_output.specs.Output.{LongTrace, VerifiedTrace}
 use Rattle.cli_output.specs.Traces.{trace_verification_outcome}
 use Rattle.cli_output.specs.Showing.{IsTraceInHex, TellsReplayedTraces, VerifiedTracesHold}
+use Rattle.cli_output.specs.Showing.{AncestorsAreTheReached}
+use Rattle.root_laws.proofs.Reaching.{each_is_reached, reached_is_ancestor, ancestors_in_order}
 
 accepted_tells : (root key : List ℕ) (at : ℕ) (proof : TraceProof) → IsTraceProof proof
     → (r : Result (Option Trace) TraceReject) → trace_verdict root key at proof ≡ r
@@ -51,3 +53,10 @@ pub verified_traces_hold : (root key : List ℕ) (at : ℕ) (input : List ℕ)
 verified_traces_hold root key at input _ (LongTrace long) done = absurd (cc done)
 verified_traces_hold root key at input _ (VerifiedTrace fits told is) done =
     told_holds root key at input told is done
+
+pub ancestors_are_the_reached : AncestorsAreTheReached
+ancestors_are_the_reached = record {
+  reached = each_is_reached;
+  all = reached_is_ancestor;
+  rise = ancestors_in_order;
+}

@@ -22,16 +22,13 @@ ghost use Rattle.block_log.specs.Log.{next_in_log};
 ghost use Rattle.chain_exec.specs.Compiled.{compiled_in};
 ghost use Rattle.chain_replay.specs.Chain.{ChainState, StandsFor};
 ghost use Rattle.lc_io.specs.Scratch.{is_known};
-ghost use Rattle.cli_append.specs.{
-  recovery.Node.{next_in_chain},
-  cli_promises.Promises.{MayLeaveAny},
-};
+ghost use Rattle.cli_append.specs.recovery.Node.{next_in_chain};
 ghost use Rattle.cli_proofs.specs.Exposing.{ledger_kept};
 ghost use Rattle.merkle_dag.specs.{Ledger.{IsHead}, Lineage.{ledger_in}};
 ghost use Rattle.root_laws.specs.Root.{root_of};
 ghost use Rattle.cli_output.specs.{
   Output.{answer_outcome, root_outcome, at_or_last},
-  Running.{IsRun, MayEnd, found_no_log},
+  Running.{HeldIsGiven, IsRun, MayEnd, MayLeaveBy, found_no_log},
   Scanning.{EndsAsked},
   Telling.{run_answer, status_of_result},
   Uses.{appends_log},
@@ -75,12 +72,15 @@ pub fn extend_log<I: Source, M: Disk + Wire, S: Scratch>(
     ensures run { IsRun M.now M.disk M.told machine.old machine.new (status_of_result result)
         (I.left source.old) (I.left source.new) (is_known (S.state scratch.old)) block_in
         compiled_in (Some command.now) }
-    ensures goes_on { is_known (S.state scratch.old) ≡ true → (content : List ℕ)
+    ensures goes_on { HeldIsGiven (is_known (S.state scratch.old)) (Some command.now)
+        → (content : List ℕ)
         → content_of (M.disk machine.old (M.now machine.old)) ≡ Some content
-        → Keeps M.now M.disk machine.old machine.new (MayLeaveAny next_in_chain content) }
+        → Keeps M.now M.disk machine.old machine.new
+        (MayLeaveBy next_in_chain (Some command.now) content) }
     ensures log_goes_on { (content : List ℕ)
         → content_of (M.disk machine.old (M.now machine.old)) ≡ Some content
-        → Keeps M.now M.disk machine.old machine.new (MayLeaveAny next_in_log content) }
+        → Keeps M.now M.disk machine.old machine.new
+        (MayLeaveBy next_in_log (Some command.now) content) }
     ensures ends { MayEnd (status_of_result result) (Some command.now) }
     ensures no_log { found_no_log (status_of_result result) ≡ true → source.new ≡ source.old }
     ensures unreadable { HasCause (I.source_faults source.old) (I.source_faults source.new)

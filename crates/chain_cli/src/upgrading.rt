@@ -7,13 +7,10 @@ ghost use Rattle.disk_model.specs.Disk.{IsSettled, Keeps, content_of};
 ghost use Rattle.block_codec.specs.Reading.{block_in};
 ghost use Rattle.block_log.specs.Log.{next_in_log};
 ghost use Rattle.chain_exec.specs.Compiled.{compiled_in};
-ghost use Rattle.cli_append.specs.{
-  recovery.Node.{next_in_chain},
-  cli_promises.Promises.{MayLeaveAny},
-};
+ghost use Rattle.cli_append.specs.recovery.Node.{next_in_chain};
 ghost use Rattle.cli_words.specs.declared.words.Command.TheVariants.{Upgrade};
 ghost use Rattle.cli_output.specs.{
-  Running.{IsRun, IsSilent, MayEnd},
+  Running.{IsRun, IsSilent, MayEnd, MayLeaveBy},
   Telling.{status_of_result, upgrade_answer},
 };
 
@@ -43,10 +40,12 @@ pub fn upgrade_log<M: Disk + Wire>(resources: Resources, machine: &mut M) -> Res
         machine.new (status_of_result result) left left held block_in compiled_in (Some Upgrade) }
     ensures goes_on { (content : List ℕ)
         → content_of (M.disk machine.old (M.now machine.old)) ≡ Some content
-        → Keeps M.now M.disk machine.old machine.new (MayLeaveAny next_in_chain content) }
+        → Keeps M.now M.disk machine.old machine.new
+        (MayLeaveBy next_in_chain (Some Upgrade) content) }
     ensures log_goes_on { (content : List ℕ)
         → content_of (M.disk machine.old (M.now machine.old)) ≡ Some content
-        → Keeps M.now M.disk machine.old machine.new (MayLeaveAny next_in_log content) }
+        → Keeps M.now M.disk machine.old machine.new
+        (MayLeaveBy next_in_log (Some Upgrade) content) }
     // If memory ran out, nothing was written.
     ensures unwritten { IsErrOf result RunStop.Memory → Stays M.now M.disk machine.old machine.new }
     ensures silent { IsSilent (status_of_result result) (M.told machine.old) (M.told machine.new) }

@@ -14,7 +14,7 @@ use Rattle.cli_promises.specs.cli_lines.declared.status.Status.{Status}
 use Rattle.cli_promises.specs.cli_lines.declared.status.Status.TheVariants as statuses
 use Rattle.cli_output.specs.Output.{Output, Wants, next_by}
 use Rattle.cli_output.specs.Uses.{reads_input, takes_frames, reads_form, checks_proof}
-use Rattle.cli_output.specs.Uses.{asks_for_block, uses_disk, uses_scratch}
+use Rattle.cli_output.specs.Uses.{asks_for_block, appends_log, marks_log, uses_disk, uses_scratch}
 
 -- Whether a run with this status came to its end: nothing outside failed, and memory did not run
 -- out.
@@ -60,6 +60,19 @@ is_no_change NoChange = true
 is_no_change (Appends []) = true
 is_no_change (Appends (block ∷ blocks)) = false
 is_no_change Marks = false
+
+-- Which changes a command may make: those that append to the log append blocks, one marks it, and
+-- each may leave it as it is.
+abbrev pub IsChangeOf : Option Command → Change → Type 0
+IsChangeOf command NoChange = Unit {0}
+IsChangeOf command (Appends added) = appends_log command ≡ true
+IsChangeOf command Marks = marks_log command ≡ true
+
+-- What a crash may leave of a disk that had this content at first, whatever the command reads of
+-- the input: what a change leaves that the command may make.
+abbrev pub MayLeaveBy : NextBlock → Option Command → List ℕ → List ℕ → Type 0
+MayLeaveBy next command content image =
+    (change : Change) × IsChangeOf command change × MayLeave next content change image
 
 -- A run that came to its end has the status of the output, and leaves of the input what the output
 -- says. If the disk is known, nothing is pending, and the log has all blocks that are appended, or

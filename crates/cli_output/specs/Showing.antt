@@ -1,8 +1,8 @@
 -- What the answer that `verify` prints proves, what `expose` prints for a wrong one, what the
 -- ancestors that `trace verify` prints and the versions that `range verify` prints prove, what the
 -- answers that `light` prints prove, and whose chain `follow` goes on with.
-use Rattle.std.specs.Prelude.{◌≡◌, ◌≢◌, ◌⊎◌, ◌≤◌, ℕ, ◌+◌, List, [], ◌∷◌, ◌++◌, map, Some}
-use Rattle.std.specs.Prelude.{take, Result, Ok, IfOk}
+use Rattle.std.specs.Prelude.{◌≡◌, ◌≢◌, ◌⊎◌, ◌≤◌, ◌<◌, ℕ, ◌+◌, List, [], ◌∷◌, ◌++◌, map, Some}
+use Rattle.std.specs.Prelude.{length, take, Result, Ok, IfOk}
 use Rattle.std.specs.List.{All}
 use Rattle.hex.specs.Hex.{decode_of}
 use Rattle.lc_base.specs.declared.answer.Answer.{Answer}
@@ -25,11 +25,18 @@ use Rattle.proof_checks.specs.TraceSpelling.{SpellsTrace}
 use Rattle.replay_soundness.specs.Ranges.{replayed_range, RangeClashesWithReplay}
 use Rattle.proof_checks.specs.declared.range_proof.RangeProof.{RangeProof}
 use Rattle.proof_checks.specs.RangeSpelling.{SpellsRange}
+use Rattle.root_laws.specs.AncestorLaws.{AncestorsAreReached, ReachedVersionsAreAncestors}
+use Rattle.root_laws.specs.AncestorLaws.{AncestorsRise}
 use Rattle.byte_fields.specs.Spelling.{IsBytes}
 use Rattle.block_codec.specs.Placement.{digest_of}
 use Rattle.cli_promises.specs.chain_exec.Replay.{replay}
-use Rattle.replay_soundness.specs.LightSoundness.{AnswersByFile}
+use Rattle.replay_soundness.specs.LightSoundness.{AnswersByFile, IsFileOfChain}
+use Rattle.replay_soundness.specs.TypedChains.{IsLawfulChain}
+use Rattle.proof_checks.specs.Making.{made_proof}
+use Rattle.lc_base.specs.KeyBytes.{IsKey}
+use Rattle.proof_codec.specs.Spelling.{IsProof}
 use Rattle.replay_soundness.specs.light_client.Checking.{LightAnswer, IsLightVerdict}
+use Rattle.replay_soundness.specs.light_client.Checking.{light_verdict}
 use Rattle.replay_soundness.specs.light_client.declared.reject.LightReject.{LightReject}
 use Rattle.replay_soundness.specs.light_client.Format.{light_bytes, light_in}
 use Rattle.replay_soundness.specs.light_client.declared.block_root.BlockRoot.{BlockRoot}
@@ -88,6 +95,13 @@ WrongAnswersAreTold root query root_at input =
 abbrev pub IsTraceInHex : List ℕ → TraceProof → Type 0
 IsTraceInHex input proof =
     (bytes : List ℕ) × (decode_of (hex_text input) ≡ Ok bytes) × SpellsTrace bytes proof
+
+-- Which versions the ancestors of a version are, in a lawful history: those that are reached from it
+-- by one or more dependencies, each once, in the order of their blocks and keys.
+pub record AncestorsAreTheReached : Type 0 where
+  pub reached : AncestorsAreReached
+  pub all : ReachedVersionsAreAncestors
+  pub rise : AncestorsRise
 
 -- The lines are those of the last version of the key up to the block, with its ancestors, of
 -- replaying the blocks of any chain that has the root, up to the block at which it has it; or a text
@@ -156,13 +170,33 @@ LightAnswersHold input =
     → (lines : List (List ℕ)) × ((light_output input).lines ≡ map plain lines)
     × AreProofsTold file (framed rest).end 0 (framed rest).frames lines
 
--- What `light make` prints over the blocks of the log is their light file: of each its digest, and
--- the root at it.
+-- The light file of these blocks: of each its digest, and the root at it.
+abbrev pub light_file_of : Compiler → List Block → List BlockRoot
+light_file_of compile blocks = block_roots_of (replay compile blocks).rows (map digest_of blocks)
+
+-- What `light make` prints over these blocks of the log is their light file. If they are a chain it
+-- is the file of that chain; so each proof that is made of it, at one of its blocks, can be spelled,
+-- and bytes that spell it answer by the file what replaying the chain answers up to that block.
+pub record IsMadeWhole (compile : Compiler) (blocks : List Block) (input : List ℕ) : Type 0 where
+  pub printed : told_bytes (make_light_output compile input blocks)
+      ≡ light_bytes (light_file_of compile blocks)
+  pub of_chain : IsCompiler compile → IsLawfulChain compile blocks
+      → IsFileOfChain compile blocks (light_file_of compile blocks)
+  pub accepts : IsCompiler compile → IsLawfulChain compile blocks → (block : ℕ) (query : Query)
+      → block < length blocks → IsKey query.key → query.at ≤ block
+      → let made = made_proof (replay compile blocks).rows (map digest_of blocks) block query in
+      IsProof made × ((bytes : List ℕ) → Spells bytes made
+      → light_verdict (light_file_of compile blocks) bytes
+      ≡ Ok (record {
+        query = query;
+        root_at = block;
+        answer = replayed_answer compile blocks block query;
+      }))
+
+-- So are those of all blocks.
 abbrev pub MadeLightFilesAreWhole : Type 0
 MadeLightFilesAreWhole =
-    (compile : Compiler) (blocks : List Block) (input : List ℕ)
-    → told_bytes (make_light_output compile input blocks)
-    ≡ light_bytes (block_roots_of (replay compile blocks).rows (map digest_of blocks))
+    (compile : Compiler) (blocks : List Block) (input : List ℕ) → IsMadeWhole compile blocks input
 
 -- ---- a leader
 

@@ -113,6 +113,11 @@ abbrev pub is_log_appended : ChainUse → Bool
 is_log_appended LogAppended = true
 is_log_appended other = false
 
+-- Whether the log is marked.
+abbrev pub is_log_marked : ChainUse → Bool
+is_log_marked LogMarked = true
+is_log_marked other = false
+
 -- Whether the log is changed: blocks are appended to it, or it is marked.
 abbrev pub is_log_changed : ChainUse → Bool
 is_log_changed LogMarked = true
@@ -170,6 +175,10 @@ asks_log command = is_log_asked (use_of command).chain
 -- Whether it may append blocks to the log.
 abbrev pub appends_log : Option Command → Bool
 appends_log command = is_log_appended (use_of command).chain
+
+-- Whether it may mark the log.
+abbrev pub marks_log : Option Command → Bool
+marks_log command = is_log_marked (use_of command).chain
 
 -- Whether it may change the log.
 abbrev pub changes_log : Option Command → Bool

@@ -92,11 +92,6 @@ MayLeave next content NoChange image = image ≡ content
 MayLeave next content (Appends added) image = (logged : Logged) × (chain_of next content ≡ Some logged) × IsPartly next logged added image
 MayLeave next content Marks image = (logged : Logged) × (chain_of next content ≡ Some logged) × IsOldOrMarked next logged image
 
--- What a crash may leave whatever the command does: the content at first, or its chain, followed by
--- further blocks or marked.
-abbrev pub MayLeaveAny : NextBlock → List ℕ → List ℕ → Type 0
-MayLeaveAny next content image = (change : Change) × MayLeave next content change image
-
 -- What a command leaves that ran to its end: the content as it was, its chain followed by all
 -- appended blocks, or its chain marked.
 abbrev pub IsChanged : NextBlock → List ℕ → Change → List ℕ → Type 0

@@ -5,4 +5,5 @@ pub mod Turns
 pub mod Follows
 pub mod Nearby
 pub mod Causes
+pub mod Crashes
 pub mod Examples

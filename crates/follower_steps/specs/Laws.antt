@@ -1,5 +1,6 @@
 -- Laws of a follower.
-use Rattle.std.specs.Prelude.{◌≡◌, ◌≢◌, ℕ, ◌<◌, ◌≤◌, Bool, List, ◌++◌, length, None, IfSome}
+use Rattle.std.specs.Prelude.{◌≡◌, ◌≢◌, ℕ, suc, ◌<◌, ◌≤◌, Bool, true, false, List, [], ◌++◌}
+use Rattle.std.specs.Prelude.{length, None, IfSome}
 use Rattle.std.specs.List.{All}
 use Rattle.block_codec.specs.declared.block.Block.{Block}
 use Rattle.block_codec.specs.declared.placement.Misplaced.TheVariants as misplaced
@@ -11,7 +12,8 @@ use Rattle.follower_steps.specs.declared.limits.TheConstants.{MAX_AHEAD}
 use Rattle.follower_steps.specs.declared.waiting.Waiting.{Waiting}
 use Rattle.follower_steps.specs.Steps.{PlacerByMark, State, AreAhead, started, further_turn}
 use Rattle.follower_steps.specs.Steps.{Turned, Added, Known, Kept, Dropped}
-use Rattle.follower_steps.specs.Events.{Event, AreEventsOf, after, settled, turn_after}
+use Rattle.follower_steps.specs.Events.{Event, Crash, CrashWithin, AreEventsOf, after}
+use Rattle.follower_steps.specs.Events.{after_event, after_turns, settled, turn_after}
 
 -- ---- a follower and its leader
 
@@ -40,6 +42,31 @@ AcknowledgedNeverFalls = (place : PlacerByMark) (blocks : List Block) (marked : 
     (events more : List Event)
     → (after place (started blocks marked) events).acknowledged
     ≤ (after place (started blocks marked) (events ++ more)).acknowledged
+
+-- A crash between two deliveries leaves the blocks that are held, and none that waits; so does one
+-- within a delivery, of the blocks from before its last turn or from after it.
+pub record IsEmptied (place : PlacerByMark) (state : State) : Type 0 where
+  pub blocks : (after_event place state Crash).blocks ≡ state.blocks
+  pub none : (after_event place state Crash).waiting ≡ []
+  pub none_within : (index : ℕ) (bytes : List ℕ) (turns : ℕ) (is_stored : Bool)
+      → (after_event place state (CrashWithin index bytes turns is_stored)).waiting ≡ []
+  pub without : (index : ℕ) (bytes : List ℕ) (before : ℕ)
+      → (after_event place state (CrashWithin index bytes (suc before) false)).blocks
+      ≡ (after_turns place index bytes before state).blocks
+  pub stored : (index : ℕ) (bytes : List ℕ) (before : ℕ)
+      → (after_event place state (CrashWithin index bytes (suc before) true)).blocks
+      ≡ (after_turns place index bytes (suc before) state).blocks
+
+abbrev pub CrashesKeepTheHeld : Type 0
+CrashesKeepTheHeld = (place : PlacerByMark) (state : State) → IsEmptied place state
+
+-- After a crash within a delivery as many blocks are acknowledged as were held before its last
+-- turn.
+abbrev pub CrashesAcknowledgeTheTold : Type 0
+CrashesAcknowledgeTheTold = (place : PlacerByMark) (state : State) (index : ℕ) (bytes : List ℕ)
+    (before : ℕ) (is_stored : Bool)
+    → (after_event place state (CrashWithin index bytes (suc before) is_stored)).acknowledged
+    ≡ length (after_turns place index bytes before state).blocks
 
 -- After all further turns of a delivery there is none.
 abbrev pub DeliveriesLeaveNoneDue : Type 0

@@ -2,6 +2,7 @@
 
 ghost use Rattle.follower_steps.specs.Laws.{AcknowledgedNeverFalls, DeliveriesLeaveNoneDue};
 ghost use Rattle.follower_steps.specs.Laws.{RefusesNoneForNumber, FollowsTheLeader, WaitsNearby};
+ghost use Rattle.follower_steps.specs.Laws.{CrashesKeepTheHeld, CrashesAcknowledgeTheTold};
 
 /// Whatever arrives of a leader's chain, in whatever order and however often, and wherever the
 /// follower crashes: its blocks are a prefix of the leader's, and it holds every block that it
@@ -29,4 +30,14 @@ pub fn waits_nearby()
 /// Whatever arrives: the chain refuses no block because the next one has another number.
 pub fn refuses_none_for_number()
     ensures { RefusesNoneForNumber }
+{}
+
+/// A crash leaves the blocks that are held, and none that waits.
+pub fn crashes_keep_the_held()
+    ensures { CrashesKeepTheHeld }
+{}
+
+/// After a crash within a delivery the blocks that were held before its last turn are acknowledged.
+pub fn crashes_acknowledge_the_told()
+    ensures { CrashesAcknowledgeTheTold }
 {}

@@ -10,8 +10,8 @@ mod waiting;
 pub use cause::Cause;
 pub use chain_replay::{Receipt, Refusal};
 pub use laws::{
-    acknowledged_never_falls, deliveries_leave_none_due, follows_the_leader,
-    refuses_none_for_number, waits_nearby,
+    acknowledged_never_falls, crashes_acknowledge_the_told, crashes_keep_the_held,
+    deliveries_leave_none_due, follows_the_leader, refuses_none_for_number, waits_nearby,
 };
 pub use limits::MAX_AHEAD;
 pub use waiting::{Arrival, Waiting, arrival_in, arrival_of, position_of};

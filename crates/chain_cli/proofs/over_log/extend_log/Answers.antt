@@ -54,43 +54,49 @@ returns-in-Err-clause-run g c =
     (c.tell.ensures.tells next_in_chain)
 
 pub returns-in-Append-clause-goes_on : goal.returns-in-Append-clause-goes_on
-returns-in-Append-clause-goes_on g c told =
-    taken_any g.M.Clock.now g.M.Clock.disk g.M.Clock.told c.args.machine.now c.start.new.machine
-    c.append.new.machine c.in-Ok.node c.requires.settled
+returns-in-Append-clause-goes_on g c given =
+    let told = given (uses_both c.args.command.now c.requires.appends).1 in
+    taken_any g.M.Clock.now g.M.Clock.disk g.M.Clock.told (Some c.args.command.now)
+    c.requires.appends c.args.machine.now c.start.new.machine c.append.new.machine c.in-Ok.node
+    c.requires.settled
     (c.start.ensures.stays c.requires.settled) (c.in-Ok.ensures.answer told)
     (c.append.ensures.goes_on (c.start.ensures.scratch.retains.known ∙ told))
 
 pub returns-in-Follow-clause-goes_on : goal.returns-in-Follow-clause-goes_on
-returns-in-Follow-clause-goes_on g c told =
-    taken_any g.M.Clock.now g.M.Clock.disk g.M.Clock.told c.args.machine.now c.start.new.machine
-    c.follow.new.machine c.in-Ok.node c.requires.settled
+returns-in-Follow-clause-goes_on g c given =
+    let told = given (uses_both c.args.command.now c.requires.appends).1 in
+    taken_any g.M.Clock.now g.M.Clock.disk g.M.Clock.told (Some c.args.command.now)
+    c.requires.appends c.args.machine.now c.start.new.machine c.follow.new.machine c.in-Ok.node
+    c.requires.settled
     (c.start.ensures.stays c.requires.settled) (c.in-Ok.ensures.answer told)
     (c.follow.ensures.goes_on (c.start.ensures.scratch.retains.known ∙ told))
 
 pub returns-in-Err-clause-goes_on : goal.returns-in-Err-clause-goes_on
-returns-in-Err-clause-goes_on g c told =
-    stays_twice g.M.Clock.now g.M.Clock.disk g.M.Clock.told next_in_chain c.args.machine.now
-    c.start.new.machine c.tell.new.machine c.requires.settled
+returns-in-Err-clause-goes_on g c given =
+    stays_twice g.M.Clock.now g.M.Clock.disk g.M.Clock.told next_in_chain (Some c.args.command.now)
+    c.args.machine.now c.start.new.machine c.tell.new.machine c.requires.settled
     (c.start.ensures.stays c.requires.settled) c.tell.ensures.disk.stays
 
 pub returns-in-Append-clause-log_goes_on : goal.returns-in-Append-clause-log_goes_on
 returns-in-Append-clause-log_goes_on g c =
-    taken_log g.M.Clock.now g.M.Clock.disk g.M.Clock.told c.args.machine.now c.start.new.machine
-    c.append.new.machine c.in-Ok.node.log c.requires.settled
+    taken_log g.M.Clock.now g.M.Clock.disk g.M.Clock.told (Some c.args.command.now)
+    c.requires.appends c.args.machine.now c.start.new.machine c.append.new.machine
+    c.in-Ok.node.log c.requires.settled
     (c.start.ensures.stays c.requires.settled) c.in-Ok.ensures.ready.log
     c.append.ensures.log_goes_on
 
 pub returns-in-Follow-clause-log_goes_on : goal.returns-in-Follow-clause-log_goes_on
 returns-in-Follow-clause-log_goes_on g c =
-    taken_log g.M.Clock.now g.M.Clock.disk g.M.Clock.told c.args.machine.now c.start.new.machine
-    c.follow.new.machine c.in-Ok.node.log c.requires.settled
+    taken_log g.M.Clock.now g.M.Clock.disk g.M.Clock.told (Some c.args.command.now)
+    c.requires.appends c.args.machine.now c.start.new.machine c.follow.new.machine
+    c.in-Ok.node.log c.requires.settled
     (c.start.ensures.stays c.requires.settled) c.in-Ok.ensures.ready.log
     c.follow.ensures.log_goes_on
 
 pub returns-in-Err-clause-log_goes_on : goal.returns-in-Err-clause-log_goes_on
 returns-in-Err-clause-log_goes_on g c =
-    stays_twice g.M.Clock.now g.M.Clock.disk g.M.Clock.told next_in_log c.args.machine.now
-    c.start.new.machine c.tell.new.machine c.requires.settled
+    stays_twice g.M.Clock.now g.M.Clock.disk g.M.Clock.told next_in_log (Some c.args.command.now)
+    c.args.machine.now c.start.new.machine c.tell.new.machine c.requires.settled
     (c.start.ensures.stays c.requires.settled) c.tell.ensures.disk.stays
 
 pub returns-in-Append-clause-ends : goal.returns-in-Append-clause-ends
@@ -140,22 +146,26 @@ returns-in-Append-clause-untold g c =
 
 pub returns-in-Follow-clause-unreadable : goal.returns-in-Follow-clause-unreadable
 returns-in-Follow-clause-unreadable g c =
-    taken_blames c.follow.result c.run_answer-in-Follow.result stops.Unreadable _ _ _ c.run_answer-in-Follow.ensures
+    taken_blames c.follow.result c.run_answer-in-Follow.result stops.Unreadable _ _ _
+    c.run_answer-in-Follow.ensures
     refl c.follow.ensures.unreadable
 
 pub returns-in-Follow-clause-disk_fault : goal.returns-in-Follow-clause-disk_fault
 returns-in-Follow-clause-disk_fault g c =
-    taken_blames c.follow.result c.run_answer-in-Follow.result stops.DiskFault _ _ _ c.run_answer-in-Follow.ensures
+    taken_blames c.follow.result c.run_answer-in-Follow.result stops.DiskFault _ _ _
+    c.run_answer-in-Follow.ensures
     (unblamed _ _ c.in-Ok.ensures.disk_fault) c.follow.ensures.disk_fault
 
 pub returns-in-Follow-clause-scratch_fault : goal.returns-in-Follow-clause-scratch_fault
 returns-in-Follow-clause-scratch_fault g c =
-    taken_blames c.follow.result c.run_answer-in-Follow.result stops.ScratchFault _ _ _ c.run_answer-in-Follow.ensures
+    taken_blames c.follow.result c.run_answer-in-Follow.result stops.ScratchFault _ _ _
+    c.run_answer-in-Follow.ensures
     (unblamed _ _ c.in-Ok.ensures.scratch.cause) c.follow.ensures.scratch_fault
 
 pub returns-in-Follow-clause-untold : goal.returns-in-Follow-clause-untold
 returns-in-Follow-clause-untold g c =
-    taken_blames c.follow.result c.run_answer-in-Follow.result stops.Untold _ _ _ c.run_answer-in-Follow.ensures
+    taken_blames c.follow.result c.run_answer-in-Follow.result stops.Untold _ _ _
+    c.run_answer-in-Follow.ensures
     c.start.ensures.wire.faults c.follow.ensures.untold
 
 pub returns-in-Err-clause-unreadable : goal.returns-in-Err-clause-unreadable

@@ -1,10 +1,12 @@
 use Rattle.std.proofs.Common.{Some, refl}
 use Rattle.lc_io.specs.Scratch.{is_known}
+use Rattle.block_log.specs.Log.{next_in_log}
 use Rattle.cli_append.specs.recovery.Node.{next_in_chain}
 use Rattle.cli_words.specs.declared.words.Command.TheVariants.{Upgrade, MakeLight, Light}
 use Rattle.cli_output.specs.Telling.{status_of_result}
 use Rattle.chain_cli.proofs.Ends.{done_ends, found_log, no_log_found, of_given, others_keep}
 use Rattle.chain_cli.proofs.Lighted.{light_run}
+use Rattle.chain_cli.proofs.Moments.{leaves_of}
 use Rattle.chain_cli.proofs.Runs.{gen_run, found_run, of_command}
 use Rattle.chain_cli.proofs.run.run_command.Goals as goal
 
@@ -41,6 +43,18 @@ returns-in-Upgrade-clause-run g c =
 pub returns-in-Upgrade-clause-ends : goal.returns-in-Upgrade-clause-ends
 returns-in-Upgrade-clause-ends g c = of_given (status_of_result c.upgrade_log.result)
     c.args.command.now Upgrade c.in-Upgrade.is c.upgrade_log.ensures.ends
+
+pub returns-in-Upgrade-clause-goes_on : goal.returns-in-Upgrade-clause-goes_on
+returns-in-Upgrade-clause-goes_on g c changes given content here =
+    leaves_of g.M.Clock.now g.M.Clock.disk g.M.Clock.told next_in_chain c.args.command.now Upgrade
+    c.in-Upgrade.is c.args.machine.now c.upgrade_log.new.machine content
+    (c.upgrade_log.ensures.goes_on content here)
+
+pub returns-in-Upgrade-clause-log_goes_on : goal.returns-in-Upgrade-clause-log_goes_on
+returns-in-Upgrade-clause-log_goes_on g c changes content here =
+    leaves_of g.M.Clock.now g.M.Clock.disk g.M.Clock.told next_in_log c.args.command.now Upgrade
+    c.in-Upgrade.is c.args.machine.now c.upgrade_log.new.machine content
+    (c.upgrade_log.ensures.log_goes_on content here)
 
 pub returns-in-Light-clause-run : goal.returns-in-Light-clause-run
 returns-in-Light-clause-run g c =

@@ -87,14 +87,14 @@ returns-in-Err-clause-run g c left held =
 
 pub returns-in-Err-clause-goes_on : goal.returns-in-Err-clause-goes_on
 returns-in-Err-clause-goes_on g c =
-    stays_twice g.M.Clock.now g.M.Clock.disk g.M.Clock.told next_in_chain c.args.machine.now
-    c.open_log.new.machine c.tell.new.machine c.requires.settled
+    stays_twice g.M.Clock.now g.M.Clock.disk g.M.Clock.told next_in_chain (Some Upgrade)
+    c.args.machine.now c.open_log.new.machine c.tell.new.machine c.requires.settled
     (c.open_log.ensures.stays c.requires.settled) c.tell.ensures.disk.stays
 
 pub returns-in-Err-clause-log_goes_on : goal.returns-in-Err-clause-log_goes_on
 returns-in-Err-clause-log_goes_on g c =
-    stays_twice g.M.Clock.now g.M.Clock.disk g.M.Clock.told next_in_log c.args.machine.now
-    c.open_log.new.machine c.tell.new.machine c.requires.settled
+    stays_twice g.M.Clock.now g.M.Clock.disk g.M.Clock.told next_in_log (Some Upgrade)
+    c.args.machine.now c.open_log.new.machine c.tell.new.machine c.requires.settled
     (c.open_log.ensures.stays c.requires.settled) c.tell.ensures.disk.stays
 
 pub returns-in-Err-clause-unwritten : goal.returns-in-Err-clause-unwritten
