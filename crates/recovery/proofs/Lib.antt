@@ -5,3 +5,5 @@ pub mod ByLog
 pub mod Started
 pub mod Nodes
 pub mod Upgraded
+pub mod Leaving
+pub mod Unrun

@@ -10,6 +10,10 @@ use Rattle.block_log.specs.Standing.{Damaged, blocks_in}
 use Rattle.block_log.specs.Log.{marks}
 use Rattle.block_log.specs.declared.layout.Stored.{Stored}
 use Rattle.rooted_chain.specs.chain_replay.Chain.{ChainState}
+use Rattle.recovery.specs.declared.errors.StartError.TheVariants as starts
+use Rattle.recovery.proofs.Leaving.{disk_failed, disk_spared, host_spares, is_disk, is_scratch}
+use Rattle.recovery.proofs.Leaving.{log_spares, ok_spares, reads_unblamed, runs_then}
+use Rattle.recovery.proofs.Leaving.{runs_unblamed, scratch_spared}
 use Rattle.recovery.proofs.Replaying.{AreRun, none_run, one_run, not_run}
 use Rattle.recovery.proofs.Started.{has_run, failed_turn}
 use Rattle.recovery.proofs.restoring.restore.Goals as goal
@@ -131,3 +135,140 @@ returns-in_err-log-clause-restored g c known =
     rw p.1 (failed_turn g.C.Replay.kept content so_far.stored (g.C.Replay.kept c.loop-log.chain)
     (so_far.run known) c.in_err-log.field-0.0 p.0 p.2
     (c.in_err-log.ensures.answer so_far.stored so_far.read))
+
+-- ---- what it does to the machine and to the scratch device
+
+pub loop-log-preserved-in-Mark : goal.loop-log-preserved-in-Mark
+loop-log-preserved-in-Mark g c =
+    let so_far = c.loop-log.invariant in
+    record {
+      stored = so_far.stored;
+      read = rw c.in-Mark.is at (c.in_ok-log.ensures.answer so_far.stored so_far.read);
+      run = so_far.run;
+      digests = so_far.digests;
+      agrees = so_far.agrees;
+      disk = stays_on g.M.Clock.now g.M.Clock.disk c.args.machine.now c.loop-log.machine
+          c.next.new.machine so_far.disk c.next.ensures.disk;
+      told = c.next.ensures.told ∙ so_far.told;
+      wire_faults = c.next.ensures.wire_faults ∙ so_far.wire_faults;
+      no_fault = unblamed (g.M.Clock.disk_faults c.loop-log.machine)
+          (g.M.Clock.disk_faults c.next.new.machine) c.in_ok-log.ensures.cause ∙ so_far.no_fault;
+      retains = so_far.retains;
+      no_scratch_fault = so_far.no_scratch_fault;
+      unused = so_far.unused;
+    }
+
+pub returns-in_err-chain-clause-machine : goal.returns-in_err-chain-clause-machine
+returns-in_err-chain-clause-machine g c =
+    let p = err_from_is_err_and c.from_residual.result c.from_residual.ensures.1 in
+    rw p.1 (reads_unblamed g.M.Clock.now g.M.Clock.disk g.M.Clock.disk_faults g.M.Clock.told
+    g.M.Clock.wire_faults c.args.machine.now c.args.machine.now _
+    (stays_here g.M.Clock.now g.M.Clock.disk c.args.machine.now) refl refl refl
+    (disk_spared p.0 (ap is_disk p.2)))
+
+pub returns-in_err-chain-clause-scratch : goal.returns-in_err-chain-clause-scratch
+returns-in_err-chain-clause-scratch g c =
+    let p = err_from_is_err_and c.from_residual.result c.from_residual.ensures.1 in
+    rw p.1 (runs_unblamed g.C.Replay.calls_scratch g.S.Scratch.state g.S.Scratch.scratch_faults
+    c.args.scratch.now c.args.scratch.now _ (retains_refl (g.S.Scratch.state c.args.scratch.now))
+    refl (λ is. refl) (scratch_spared p.0 (ap is_scratch p.2)))
+
+pub returns-in_err-log-clause-machine : goal.returns-in_err-log-clause-machine
+returns-in_err-log-clause-machine g c =
+    let so_far = c.loop-log.invariant in
+    let p = err_from_is_err_and c.from_residual-in_err-log.result
+    c.from_residual-in_err-log.ensures.1 in
+    rw p.1 (record {
+      stays = stays_on g.M.Clock.now g.M.Clock.disk c.args.machine.now c.loop-log.machine
+          c.next.new.machine so_far.disk c.next.ensures.disk;
+      wire = record {
+        told = c.next.ensures.told ∙ so_far.told;
+        faults = c.next.ensures.wire_faults ∙ so_far.wire_faults;
+      };
+      cause = disk_failed c.in_err-log.field-0.0 p.0 (g.M.Clock.disk_faults c.args.machine.now)
+          (g.M.Clock.disk_faults c.loop-log.machine) (g.M.Clock.disk_faults c.next.new.machine)
+          p.2 so_far.no_fault c.in_err-log.ensures.cause;
+    })
+
+pub returns-in_err-log-clause-scratch : goal.returns-in_err-log-clause-scratch
+returns-in_err-log-clause-scratch g c =
+    let so_far = c.loop-log.invariant in
+    let p = err_from_is_err_and c.from_residual-in_err-log.result
+    c.from_residual-in_err-log.ensures.1 in
+    rw p.1 (runs_unblamed g.C.Replay.calls_scratch g.S.Scratch.state g.S.Scratch.scratch_faults
+    c.args.scratch.now c.loop-log.scratch _ so_far.retains so_far.no_scratch_fault so_far.unused
+    (log_spares c.in_err-log.field-0.0 p.0 p.2))
+
+pub returns-in-End-clause-agrees : goal.returns-in-End-clause-agrees
+returns-in-End-clause-agrees g c = c.loop-log.invariant.agrees
+
+pub returns-in-End-clause-machine : goal.returns-in-End-clause-machine
+returns-in-End-clause-machine g c =
+    let so_far = c.loop-log.invariant in
+    reads_unblamed g.M.Clock.now g.M.Clock.disk g.M.Clock.disk_faults g.M.Clock.told
+    g.M.Clock.wire_faults c.args.machine.now c.next.new.machine _
+    (stays_on g.M.Clock.now g.M.Clock.disk c.args.machine.now c.loop-log.machine
+    c.next.new.machine so_far.disk c.next.ensures.disk) (c.next.ensures.told ∙ so_far.told)
+    (c.next.ensures.wire_faults ∙ so_far.wire_faults)
+    (unblamed _ _ c.in_ok-log.ensures.cause ∙ so_far.no_fault) ok_spares
+
+pub returns-in-End-clause-scratch : goal.returns-in-End-clause-scratch
+returns-in-End-clause-scratch g c =
+    let so_far = c.loop-log.invariant in
+    runs_unblamed g.C.Replay.calls_scratch g.S.Scratch.state g.S.Scratch.scratch_faults
+    c.args.scratch.now c.loop-log.scratch _ so_far.retains so_far.no_scratch_fault so_far.unused
+    ok_spares
+
+pub returns-in-Ok-Err-clause-machine : goal.returns-in-Ok-Err-clause-machine
+returns-in-Ok-Err-clause-machine g c =
+    let so_far = c.loop-log.invariant in
+    reads_unblamed g.M.Clock.now g.M.Clock.disk g.M.Clock.disk_faults g.M.Clock.told
+    g.M.Clock.wire_faults c.args.machine.now c.next.new.machine _
+    (stays_on g.M.Clock.now g.M.Clock.disk c.args.machine.now c.loop-log.machine
+    c.next.new.machine so_far.disk c.next.ensures.disk) (c.next.ensures.told ∙ so_far.told)
+    (c.next.ensures.wire_faults ∙ so_far.wire_faults)
+    (unblamed _ _ c.in_ok-log.ensures.cause ∙ so_far.no_fault) (disk_spared (starts.Damaged c.in-Ok-Err.at) refl)
+
+pub returns-in-Ok-Err-clause-scratch : goal.returns-in-Ok-Err-clause-scratch
+returns-in-Ok-Err-clause-scratch g c =
+    let so_far = c.loop-log.invariant in
+    runs_then g.C.Replay.calls_scratch g.S.Scratch.state g.S.Scratch.scratch_faults
+    c.args.scratch.now c.loop-log.scratch c.run_stored.new.scratch _ _ so_far.retains
+    so_far.no_scratch_fault so_far.unused
+    (rw c.in-Ok-Err.field-0-is at c.in-Ok-Err.ensures.scratch) (λ blames. absurd (ok_spares blames)) (λ blames. absurd (scratch_spared (starts.Damaged c.in-Ok-Err.at) refl blames))
+
+pub returns-in-Err-Fault-clause-machine : goal.returns-in-Err-Fault-clause-machine
+returns-in-Err-Fault-clause-machine g c =
+    let so_far = c.loop-log.invariant in
+    reads_unblamed g.M.Clock.now g.M.Clock.disk g.M.Clock.disk_faults g.M.Clock.told
+    g.M.Clock.wire_faults c.args.machine.now c.next.new.machine _
+    (stays_on g.M.Clock.now g.M.Clock.disk c.args.machine.now c.loop-log.machine
+    c.next.new.machine so_far.disk c.next.ensures.disk) (c.next.ensures.told ∙ so_far.told)
+    (c.next.ensures.wire_faults ∙ so_far.wire_faults)
+    (unblamed _ _ c.in_ok-log.ensures.cause ∙ so_far.no_fault) (disk_spared starts.ScratchFault refl)
+
+pub returns-in-Err-Fault-clause-scratch : goal.returns-in-Err-Fault-clause-scratch
+returns-in-Err-Fault-clause-scratch g c =
+    let so_far = c.loop-log.invariant in
+    runs_then g.C.Replay.calls_scratch g.S.Scratch.state g.S.Scratch.scratch_faults
+    c.args.scratch.now c.loop-log.scratch c.run_stored.new.scratch _ _ so_far.retains
+    so_far.no_scratch_fault so_far.unused
+    (rw c.in-Err-Fault.field-0-is at c.in-Err-Fault.ensures.scratch) (λ blames. refl) (λ blames. refl)
+
+pub returns-in-Err-Memory-clause-machine : goal.returns-in-Err-Memory-clause-machine
+returns-in-Err-Memory-clause-machine g c =
+    let so_far = c.loop-log.invariant in
+    reads_unblamed g.M.Clock.now g.M.Clock.disk g.M.Clock.disk_faults g.M.Clock.told
+    g.M.Clock.wire_faults c.args.machine.now c.next.new.machine _
+    (stays_on g.M.Clock.now g.M.Clock.disk c.args.machine.now c.loop-log.machine
+    c.next.new.machine so_far.disk c.next.ensures.disk) (c.next.ensures.told ∙ so_far.told)
+    (c.next.ensures.wire_faults ∙ so_far.wire_faults)
+    (unblamed _ _ c.in_ok-log.ensures.cause ∙ so_far.no_fault) (disk_spared starts.Memory refl)
+
+pub returns-in-Err-Memory-clause-scratch : goal.returns-in-Err-Memory-clause-scratch
+returns-in-Err-Memory-clause-scratch g c =
+    let so_far = c.loop-log.invariant in
+    runs_then g.C.Replay.calls_scratch g.S.Scratch.state g.S.Scratch.scratch_faults
+    c.args.scratch.now c.loop-log.scratch c.run_stored.new.scratch _ _ so_far.retains
+    so_far.no_scratch_fault so_far.unused
+    (rw c.in-Err-Memory.field-0-is at c.in-Err-Memory.ensures.scratch) (λ blames. absurd (host_spares blames)) (λ blames. absurd (scratch_spared starts.Memory refl blames))

@@ -21,7 +21,9 @@ use Rattle.recovery.specs.Node.{NodeState, AreOfBlocks, IsNodeOf, logged_in, sto
 use Rattle.recovery.specs.contracts.node.Node.{the_view}
 use Rattle.recovery.proofs.Placing.{next_of_log, next_stored}
 use Rattle.recovery.proofs.ByLog.{still_log, spelled_log}
+use Rattle.recovery.proofs.Leaving.{last_blamed, none_blamed}
 use Rattle.recovery.proofs.Nodes.{is_added, still, next_after, longer_node, hashed, one_more}
+use Rattle.recovery.proofs.Unrun.{disk_spared, none_back, none_handed, scratch_blamed}
 use Rattle.recovery.proofs.node.Node.add.Given.{Over}
 use Rattle.recovery.proofs.node.Node.add.Goals as goal
 use Rattle.recovery.proofs.node.Node.add.Goals.{After-drop-run}
@@ -221,3 +223,86 @@ returns-in-Err-store-clause-scratch g c =
 
 pub store-requires-clause-headless : goal.store-requires-clause-headless
 store-requires-clause-headless g c = c.self.invariant.headless
+
+-- ---- a block that did not run
+
+pub returns-in-Err-clause-answer : goal.returns-in-Err-clause-answer
+returns-in-Err-clause-answer g c told blocks is judgement = none_handed c.in-Err.error
+    c.run_error.result c.run_error.ensures c.args.self _ blocks (Ok (Added c.args.block.now))
+
+pub returns-in-Err-clause-node : goal.returns-in-Err-clause-node
+returns-in-Err-clause-node g c = tt
+
+pub returns-in-Err-clause-ready : goal.returns-in-Err-clause-ready
+returns-in-Err-clause-ready g c = tt
+
+pub returns-in-Err-clause-marked : goal.returns-in-Err-clause-marked
+returns-in-Err-clause-marked g c = tt
+
+pub returns-in-Err-clause-handed : goal.returns-in-Err-clause-handed
+returns-in-Err-clause-handed g c =
+    none_back c.in-Err.error c.run_error.result c.run_error.ensures
+
+pub returns-in-Err-clause-untouched : goal.returns-in-Err-clause-untouched
+returns-in-Err-clause-untouched g c unreached = refl
+
+pub returns-in-Err-clause-wire : goal.returns-in-Err-clause-wire
+returns-in-Err-clause-wire g c = record { told = refl; faults = refl }
+
+pub returns-in-Err-clause-disk_cause : goal.returns-in-Err-clause-disk_cause
+returns-in-Err-clause-disk_cause g c =
+    none_blamed _ _ _ refl (disk_spared c.in-Err.error c.run_error.result c.run_error.ensures)
+
+pub returns-in-Err-clause-scratch : goal.returns-in-Err-clause-scratch
+returns-in-Err-clause-scratch g c = record {
+  retains = c.in-Err.ensures.retains;
+  cause = scratch_blamed c.in-Err.error c.run_error.result c.run_error.ensures _ _
+      c.in-Err.ensures.cause;
+}
+
+-- ---- a block that was stored
+
+pub returns-in-Ok-store-clause-marked : goal.returns-in-Ok-store-clause-marked
+returns-in-Ok-store-clause-marked g c = c.in-Ok-store.ensures.marked
+    ∙ ap (λ (n : NodeState). n.log.is_marked) c.self.view_is
+
+pub returns-in-Ok-store-clause-handed : goal.returns-in-Ok-store-clause-handed
+returns-in-Ok-store-clause-handed g c = tt
+
+pub returns-in-Ok-store-clause-untouched : goal.returns-in-Ok-store-clause-untouched
+returns-in-Ok-store-clause-untouched g c unreached = absurd (true≢false unreached)
+
+pub returns-in-Ok-store-clause-wire : goal.returns-in-Ok-store-clause-wire
+returns-in-Ok-store-clause-wire g c = c.store.ensures.wire
+
+pub returns-in-Ok-store-clause-disk_cause : goal.returns-in-Ok-store-clause-disk_cause
+returns-in-Ok-store-clause-disk_cause g c =
+    last_blamed _ _ _ _ _ refl c.in-Ok-store.ensures.cause (λ blames. absurd (true≢false (sym blames)))
+    (λ blames. absurd blames)
+
+-- ---- a block that ran, and was not stored
+
+pub returns-in-Err-store-clause-answer : goal.returns-in-Err-store-clause-answer
+returns-in-Err-store-clause-answer g c told blocks is judgement = refl
+
+pub returns-in-Err-store-clause-node : goal.returns-in-Err-store-clause-node
+returns-in-Err-store-clause-node g c = tt
+
+pub returns-in-Err-store-clause-ready : goal.returns-in-Err-store-clause-ready
+returns-in-Err-store-clause-ready g c = tt
+
+pub returns-in-Err-store-clause-marked : goal.returns-in-Err-store-clause-marked
+returns-in-Err-store-clause-marked g c = tt
+
+pub returns-in-Err-store-clause-handed : goal.returns-in-Err-store-clause-handed
+returns-in-Err-store-clause-handed g c = refl
+
+pub returns-in-Err-store-clause-untouched : goal.returns-in-Err-store-clause-untouched
+returns-in-Err-store-clause-untouched g c unreached = absurd (true≢false unreached)
+
+pub returns-in-Err-store-clause-wire : goal.returns-in-Err-store-clause-wire
+returns-in-Err-store-clause-wire g c = c.store.ensures.wire
+
+pub returns-in-Err-store-clause-disk_cause : goal.returns-in-Err-store-clause-disk_cause
+returns-in-Err-store-clause-disk_cause g c =
+    last_blamed _ _ _ _ _ refl c.in-Err-store.ensures.cause (λ blames. refl) (λ blames. refl)
