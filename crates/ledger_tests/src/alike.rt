@@ -1,168 +1,179 @@
 //! Questions about each row of chains, answered by plain rows and by a lineage over a scratch
-//! device: the answers are the same.
+//! device: the answers are the same. And the root at a block is the same whether it was made with
+//! the block or is made when it is asked for, at the last block by its tree and at an older one by a
+//! walk over the index.
 
+ghost use Rattle.lc_io.specs.MemScratch.{state_over};
 ghost use Rattle.merkle_dag.specs.Lineage.{AgreesWith};
 
-use crate::lineages::{chain_of, device, lineage_of};
+use crate::acts::{Act, holds_of};
+use crate::lineages::{chain_of, device, is_same_answer};
 use chain_pack::blocks_of_seed;
 use chain_replay::{Chain, Replay};
-use lc_base::{Answer, Kind, Query, TextList, Value};
-use lc_io::Scratch;
+use lc_base::{Kind, Query, TextList};
+use lc_io::MemScratch;
 use lineage_index::Steps;
 use merkle_dag::Lineage;
 use prov_query::ask;
+use rooted_chain::AllRootsChain;
 use std::alloc::Global;
 
-/// The number of blocks of a chain.
+/// The number of blocks of a chain whose rows are asked about.
 const BLOCKS: u32 = 16;
 
-/// The seeds of the chains.
+/// The seeds of the chains whose rows are asked about.
 const SEEDS: [u32; 3] = [1, 7, 2026];
 
-/// Whether two values are the same.
-fn is_same_value(one: &Value, other: &Value) -> bool {
-    match (one, other) {
-        (Value::Int(one), Value::Int(other)) => *one == *other,
-        (Value::Text(one), Value::Text(other)) => one.as_bytes() == other.as_bytes(),
-        (Value::Gone, Value::Gone) => true,
-        _ => false,
-    }
-}
+/// The number of blocks of the chain whose roots are asked for.
+const ROOTS: u32 = 24;
 
-/// Whether two answers are the same.
-pub(crate) fn is_same_answer(one: &Answer, other: &Answer) -> bool {
-    match (one, other) {
-        (Answer::Nothing, Answer::Nothing) => true,
-        (
-            Answer::Hist { block, tx, value },
-            Answer::Hist {
-                block: other_block,
-                tx: other_tx,
-                value: other_value,
-            },
-        ) => *block == *other_block && *tx == *other_tx && is_same_value(value, other_value),
-        (
-            Answer::Back { block, deps },
-            Answer::Back {
-                block: other_block,
-                deps: other_deps,
-            },
-        ) => *block == *other_block && deps.as_slice() == other_deps.as_slice(),
-        (
-            Answer::Fwd { block, uses },
-            Answer::Fwd {
-                block: other_block,
-                uses: other_uses,
-            },
-        ) => *block == *other_block && uses.as_slice() == other_uses.as_slice(),
-        _ => false,
-    }
-}
+/// The seed of the chain whose roots are asked for.
+const SEED: u32 = 7;
 
-/// Whether a lineage answers a question like this.
-pub(crate) fn tells<S: Scratch>(
-    alloc: Global,
-    lineage: &mut Lineage,
-    scratch: &mut S,
-    query: &Query,
-    wanted: &Answer,
-    steps: &mut Steps,
-) -> bool
-    requires agrees { AgreesWith lineage.old (S.state scratch.old) }
-    ensures agrees { AgreesWith lineage.new (S.state scratch.new) }
-{
-    match ask(alloc, lineage, scratch, query, steps) {
-        Ok(answer) => is_same_answer(&answer, wanted),
-        Err(_) => false,
-    }
-}
+/// The questions about a row: the kind, and the least block, up to which it is asked if the row's
+/// own is lower.
+const QUESTIONS: [(Kind, u32); 6] = [
+    (Kind::Hist, 0),
+    (Kind::Hist, BLOCKS - 1),
+    (Kind::Back, 0),
+    (Kind::Back, BLOCKS - 1),
+    (Kind::Fwd, 0),
+    (Kind::Fwd, BLOCKS - 1),
+];
 
 /// Whether both answer a question alike.
-fn ask_alike<S: Scratch>(
+fn answer_alike(
     alloc: Global,
     chain: &mut Chain,
     lineage: &mut Lineage,
-    scratch: &mut S,
+    scratch: &mut MemScratch,
     query: &Query,
 ) -> bool
-    requires agrees { AgreesWith lineage.old (S.state scratch.old) }
-    ensures agrees { AgreesWith lineage.new (S.state scratch.new) }
+    requires agrees { AgreesWith lineage.old (state_over scratch.old.bytes) }
+    ensures agrees { AgreesWith lineage.new (state_over scratch.new.bytes) }
 {
-    match chain.ask(query) {
-        Ok(plain) => tells(alloc, lineage, scratch, query, &plain, &mut Steps::new()),
-        Err(_) => false,
+    let plain = chain.ask(query);
+    let found = ask(alloc, lineage, scratch, query, &mut Steps::new());
+    match (&plain, &found) {
+        (Ok(plain), Ok(found)) => is_same_answer(plain, found),
+        _ => false,
     }
 }
 
 /// Whether both answer each question about a row alike: at its block, and at the last one.
-fn tell_row_alike<S: Scratch>(
+fn answer_row_alike(
     alloc: Global,
     chain: &mut Chain,
     lineage: &mut Lineage,
-    scratch: &mut S,
+    scratch: &mut MemScratch,
     index: u32,
 ) -> bool
-    requires agrees { AgreesWith lineage.old (S.state scratch.old) }
-    ensures agrees { AgreesWith lineage.new (S.state scratch.new) }
+    requires agrees { AgreesWith lineage.old (state_over scratch.old.bytes) }
+    ensures agrees { AgreesWith lineage.new (state_over scratch.new.bytes) }
 {
     if index as usize >= lineage.row_count() {
         return false;
     }
     let facts = lineage.row_facts(index);
     let (key, block) = (facts.key, facts.block);
-    for kind in [Kind::Hist, Kind::Back, Kind::Fwd] {
-        for at in [block, BLOCKS - 1] {
-            let query = Query { kind, key, at };
-            if !ask_alike(alloc, chain, lineage, scratch, &query) {
-                return false;
-            }
-        }
-    }
-    true
-}
-
-/// Whether both answer each question about each row alike.
-fn tell_rows_alike<S: Scratch>(
-    alloc: Global,
-    chain: &mut Chain,
-    lineage: &mut Lineage,
-    scratch: &mut S,
-) -> bool
-    requires agrees { AgreesWith lineage.old (S.state scratch.old) }
-    ensures agrees { AgreesWith lineage.new (S.state scratch.new) }
-{
-    for index in 0..lineage.row_count() as u32 {
-        if !tell_row_alike(alloc, chain, lineage, scratch, index) {
+    for question in QUESTIONS {
+        let (kind, least) = question;
+        let query = Query {
+            kind,
+            key,
+            at: block.max(least),
+        };
+        if !answer_alike(alloc, chain, lineage, scratch, &query) {
             return false;
         }
     }
     true
 }
 
-/// Whether a lineage of the blocks of a chain has rows, and both answer each question about each
-/// row alike.
-fn tells_alike(alloc: Global, chain: &mut Chain, blocks: &TextList) -> Option<bool> {
-    let mut scratch = device(alloc, &[])?;
-    let mut lineage = lineage_of(alloc, &mut scratch, blocks)?;
-    let has_rows = lineage.row_count() > 0;
-    let alike = tell_rows_alike(alloc, chain, &mut lineage, &mut scratch);
-    lineage.give_up();
-    Some(has_rows && alike)
+/// Whether both have rows, and answer each question about each row alike.
+fn answer_rows_alike(
+    alloc: Global,
+    chain: &mut Chain,
+    lineage: &mut Lineage,
+    scratch: &mut MemScratch,
+) -> bool
+    requires agrees { AgreesWith lineage.old (state_over scratch.old.bytes) }
+    ensures agrees { AgreesWith lineage.new (state_over scratch.new.bytes) }
+{
+    let rows = lineage.row_count();
+    for index in 0..rows as u32 {
+        if !answer_row_alike(alloc, chain, lineage, scratch, index) {
+            return false;
+        }
+    }
+    rows > 0
 }
 
-/// Whether the chain of a seed has rows, and both answer each question about each row alike.
-fn tell_seed_alike(alloc: Global, seed: u32) -> Option<bool> {
-    let blocks = blocks_of_seed(alloc, BLOCKS, seed).ok()?;
-    let mut scratch = device(alloc, &[])?;
-    let mut plain: Chain = chain_of(alloc, &mut scratch, &blocks)?;
-    let alike = tells_alike(alloc, &mut plain, &blocks);
-    plain.give_up();
-    alike
+/// Whether plain rows answer each question about each row as the lineage of the blocks does.
+pub(crate) fn has_same_answers(
+    alloc: Global,
+    blocks: &TextList,
+    lineage: &mut Lineage,
+    scratch: &mut MemScratch,
+) -> bool
+    requires agrees { AgreesWith lineage.old (state_over scratch.old.bytes) }
+    ensures agrees { AgreesWith lineage.new (state_over scratch.new.bytes) }
+{
+    let Some(mut other) = device(alloc, &[]) else {
+        return false;
+    };
+    let chain: Option<Chain> = chain_of(alloc, &mut other, blocks);
+    match chain {
+        Some(mut chain) => {
+            let alike = answer_rows_alike(alloc, &mut chain, lineage, scratch);
+            chain.give_up();
+            alike
+        }
+        None => false,
+    }
+}
+
+/// Whether two lineages have the same root at each block, and none is missing.
+fn are_roots_alike(one: &Lineage, other: &Lineage) -> bool {
+    for at in 0..ROOTS {
+        let is_same = match (one.root(at), other.root(at)) {
+            (Some(one), Some(other)) => one == other,
+            _ => false,
+        };
+        if !is_same {
+            return false;
+        }
+    }
+    true
+}
+
+/// Whether a chain of the blocks that makes each root with its block has the roots of the lineage.
+pub(crate) fn has_same_roots(alloc: Global, blocks: &TextList, lineage: &Lineage) -> bool {
+    let Some(mut other) = device(alloc, &[]) else {
+        return false;
+    };
+    let chain: Option<AllRootsChain> = chain_of(alloc, &mut other, blocks);
+    match chain {
+        Some(chain) => {
+            let made = chain.into_lineage();
+            let alike = are_roots_alike(&made, lineage);
+            made.give_up();
+            alike
+        }
+        None => false,
+    }
 }
 
 #[test]
 fn answers_are_those_of_plain_rows(rt: HostRuntime) {
     for seed in SEEDS {
-        assert!(rt; tell_seed_alike(rt.alloc(), seed) == Some(true));
+        let blocks = blocks_of_seed(rt.alloc(), BLOCKS, seed).ok();
+        assert!(rt; holds_of(rt.alloc(), blocks, &[], &[Act::AskAlike]) == Some(true));
     }
+}
+
+#[test]
+fn roots_are_made_alike(rt: HostRuntime) {
+    let blocks = blocks_of_seed(rt.alloc(), ROOTS, SEED).ok();
+    assert!(rt; holds_of(rt.alloc(), blocks, &[], &[Act::RootsAlike]) == Some(true));
 }

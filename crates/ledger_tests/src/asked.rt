@@ -1,17 +1,13 @@
 //! A lineage that is asked by calls that the program doesn't make, over the chain of
 //! `examples/recall.blocks`.
 
-ghost use Rattle.merkle_dag.specs.Lineage.{AgreesWith};
-
-use crate::alike::{is_same_answer, tells};
-use crate::lineages::{device, lineage_of_draft};
+use crate::acts::{Act, holds_of};
+use crate::lineages::Question;
+use block_codec::FIRST_VERSION;
+use chain_pack::pack;
 use hex::FromHex;
-use lc_base::{Answer, Dep, DepList, Digest, Key, Kind, Query, Value};
-use lc_io::Scratch;
-use lineage_index::Steps;
+use lc_base::{Digest, Kind};
 use merkle_dag::{Lineage, QueryError};
-use prov_query::{answer, ask};
-use std::alloc::Global;
 
 /// The draft of the three blocks.
 const DRAFT: &[u8] = br#"[
@@ -36,149 +32,81 @@ const PAIR: &str = "b72932a29059361920a50e4214789bbc92396695ddfb08a1894f6bf5c1f5
 /// The tree hash of the first four leaves.
 const FOUR: &str = "7c2e11c93b331c080c08fe17b970b57e84664f9a9aa963df1fed9f7f89c725e4";
 
-/// Adds the version of a key in a block.
-fn add_version(versions: &mut DepList, key: &[u8], block: u32) -> Option<()> {
-    let key = Key::new(key).ok()?;
-    versions.push(Dep { key, block }).ok()
-}
-
-/// The versions of these keys, each in the block beside it.
-fn versions(alloc: Global, places: &[(&[u8], u32)]) -> Option<DepList> {
-    let mut versions = DepList::new(alloc);
-    for (key, block) in places {
-        add_version(&mut versions, key, *block)?;
-    }
-    Some(versions)
-}
-
-/// A question about a key.
-fn question(kind: Kind, key: &[u8], at: u32) -> Option<Query> {
-    let key = Key::new(key).ok()?;
-    Some(Query { kind, key, at })
-}
-
-/// Whether the uses of the first part are its two lots, and one version is looked at.
-fn tells_uses<S: Scratch>(alloc: Global, lineage: &mut Lineage, scratch: &mut S) -> Option<bool>
-    requires agrees { AgreesWith lineage.old (S.state scratch.old) }
-    ensures agrees { AgreesWith lineage.new (S.state scratch.new) }
-{
-    let mut steps = Steps::new();
-    let query = question(Kind::Fwd, b"raw/part/p1", 2)?;
-    let uses = versions(alloc, &[(b"raw/lot/l1", 1), (b"raw/lot/l3", 2)])?;
-    let wanted = Answer::Fwd { block: 0, uses };
-    let is_told = tells(alloc, lineage, scratch, &query, &wanted, &mut steps);
-    Some(is_told && steps.count() == 1)
-}
-
-/// Whether a question past the last block is answered with that block's number, and looks at
-/// nothing.
-fn tells_the_head<S: Scratch>(alloc: Global, lineage: &mut Lineage, scratch: &mut S) -> Option<bool>
-    requires agrees { AgreesWith lineage.old (S.state scratch.old) }
-    ensures agrees { AgreesWith lineage.new (S.state scratch.new) }
-{
-    let mut steps = Steps::new();
-    let query = question(Kind::Fwd, b"raw/part/p1", 3)?;
-    match ask(alloc, lineage, scratch, &query, &mut steps) {
-        Ok(_) => None,
-        Err(error) => Some(error == QueryError::Beyond { head: Some(2) } && steps.count() == 0),
-    }
-}
-
-/// Whether the lineage itself answers a question like this.
-fn answers<S: Scratch>(
-    alloc: Global,
-    lineage: &mut Lineage,
-    scratch: &mut S,
-    query: &Query,
-    wanted: &Answer,
-) -> bool
-    requires agrees { AgreesWith lineage.old (S.state scratch.old) }
-    ensures agrees { AgreesWith lineage.new (S.state scratch.new) }
-{
-    match answer(alloc, lineage, scratch, query, &mut Steps::new()) {
-        Ok(answer) => is_same_answer(&answer, wanted),
-        Err(_) => false,
-    }
-}
-
-/// Whether the lineage itself answers what the third lot was made of.
-fn tells_parts<S: Scratch>(alloc: Global, lineage: &mut Lineage, scratch: &mut S) -> Option<bool>
-    requires agrees { AgreesWith lineage.old (S.state scratch.old) }
-    ensures agrees { AgreesWith lineage.new (S.state scratch.new) }
-{
-    let query = question(Kind::Back, b"raw/lot/l3", 2)?;
-    let deps = versions(alloc, &[(b"raw/part/p1", 0), (b"raw/part/p2", 0)])?;
-    let wanted = Answer::Back { block: 2, deps };
-    Some(answers(alloc, lineage, scratch, &query, &wanted))
-}
-
-/// Whether the lineage itself answers the number of the third lot, also past the last block.
-fn tells_number<S: Scratch>(alloc: Global, lineage: &mut Lineage, scratch: &mut S) -> Option<bool>
-    requires agrees { AgreesWith lineage.old (S.state scratch.old) }
-    ensures agrees { AgreesWith lineage.new (S.state scratch.new) }
-{
-    let query = question(Kind::Hist, b"raw/lot/l3", 9)?;
-    let number = Answer::Hist {
-        block: 2,
-        tx: 0,
-        value: Value::Int(200),
-    };
-    Some(answers(alloc, lineage, scratch, &query, &number))
-}
-
 /// The digest that these digits spell in hex.
 fn spelled(digits: &str) -> Option<Digest> {
-    let bytes = <[u8; 32] as FromHex>::from_hex(digits).ok()?;
-    Some(Digest(bytes))
-}
-
-/// Whether the audit path of the last of the seven leaves, that of `raw/shop/s1`, has the tree
-/// hashes that are known.
-fn has_audit_path(lineage: &Lineage) -> Option<bool> {
-    let wanted = [spelled(PAIR)?, spelled(FOUR)?];
-    let tree = lineage.tree();
-    if tree.count() != 7 {
-        return None;
-    }
-    match tree.audit(6) {
-        Ok(path) => Some(path.as_slice() == wanted.as_slice()),
+    match <[u8; 32] as FromHex>::from_hex(digits) {
+        Ok(bytes) => Some(Digest(bytes)),
         Err(_) => None,
     }
 }
 
-/// What a lineage of the draft tells.
-#[derive(Clone, Copy)]
-struct Told {
-    uses: Option<bool>,
-    head: Option<bool>,
-    parts: Option<bool>,
-    number: Option<bool>,
-    audit_path: Option<bool>,
+/// Whether the audit path of the last of the seven leaves, that of `raw/shop/s1`, has the tree
+/// hashes that are known.
+pub(crate) fn has_audit_path(lineage: &Lineage) -> bool {
+    let (Some(pair), Some(four)) = (spelled(PAIR), spelled(FOUR)) else {
+        return false;
+    };
+    let tree = lineage.tree();
+    if tree.count() != 7 {
+        return false;
+    }
+    match tree.audit(6) {
+        Ok(path) => path.as_slice() == [pair, four].as_slice(),
+        Err(_) => false,
+    }
 }
 
-fn told_of_draft(alloc: Global) -> Option<Told> {
-    let mut scratch = device(alloc, &[])?;
-    let mut lineage = lineage_of_draft(alloc, &mut scratch, DRAFT)?;
-    let told = Told {
-        uses: tells_uses(alloc, &mut lineage, &mut scratch),
-        head: tells_the_head(alloc, &mut lineage, &mut scratch),
-        parts: tells_parts(alloc, &mut lineage, &mut scratch),
-        number: tells_number(alloc, &mut lineage, &mut scratch),
-        audit_path: has_audit_path(&lineage),
-    };
-    lineage.give_up();
-    Some(told)
-}
+/// What the lineage must tell.
+const TOLD: [Act<'static>; 5] = [
+    // The uses of the first part are its two lots, and one version is looked at.
+    Act::Ask(Question {
+        by_ask: true,
+        kind: Kind::Fwd,
+        key: b"raw/part/p1",
+        at: 2,
+        told: (b'f', 0, 0, 0),
+        list: &[(b"raw/lot/l1", 1), (b"raw/lot/l3", 2)],
+        error: None,
+        steps: (1, 1),
+    }),
+    // A question past the last block is answered with that block's number, and looks at nothing.
+    Act::Ask(Question {
+        by_ask: true,
+        kind: Kind::Fwd,
+        key: b"raw/part/p1",
+        at: 3,
+        told: (b'!', 0, 0, 0),
+        list: &[],
+        error: Some(QueryError::Beyond { head: Some(2) }),
+        steps: (0, 0),
+    }),
+    // The lineage itself answers what the third lot was made of.
+    Act::Ask(Question {
+        by_ask: false,
+        kind: Kind::Back,
+        key: b"raw/lot/l3",
+        at: 2,
+        told: (b'b', 2, 0, 0),
+        list: &[(b"raw/part/p1", 0), (b"raw/part/p2", 0)],
+        error: None,
+        steps: (0, u64::MAX),
+    }),
+    // The lineage itself answers the number of the third lot, also past the last block.
+    Act::Ask(Question {
+        by_ask: false,
+        kind: Kind::Hist,
+        key: b"raw/lot/l3",
+        at: 9,
+        told: (b'i', 2, 0, 200),
+        list: &[],
+        error: None,
+        steps: (0, u64::MAX),
+    }),
+    Act::AuditPath,
+];
 
 #[test]
 fn answers_of_a_lineage(rt: HostRuntime) {
-    let Some(told) = told_of_draft(rt.alloc()) else {
-        assert!(rt; false);
-        return;
-    };
-    assert!(rt; told.uses == Some(true));
-    assert!(rt; told.head == Some(true));
-    assert!(rt; told.parts == Some(true));
-    assert!(rt; told.number == Some(true));
-    assert!(rt; told.audit_path == Some(true));
+    let blocks = pack(rt.alloc(), DRAFT, FIRST_VERSION).ok();
+    assert!(rt; holds_of(rt.alloc(), blocks, &[], &TOLD) == Some(true));
 }

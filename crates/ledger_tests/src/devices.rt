@@ -1,16 +1,13 @@
-//! A block of one row more than bodies are at hand, over devices in memory and over a file.
+//! Which bodies are read: a block of one row more than bodies are at hand, over devices in memory and
+//! over a file; and a key with very many versions.
 
-ghost use Rattle.std.specs.Prelude.{IfSome};
-ghost use Rattle.lc_io.specs.MemScratch.{state_over};
-ghost use Rattle.merkle_dag.specs.Lineage.{AgreesWith};
-
-use crate::lineages::{add_block, device, int_at, lineage_of, set};
-use block_codec::TxList;
+use crate::acts::{Act, holds_of};
+use crate::lineages::{Question, blocks_of_numbers, lineage_of, tells};
+use crate::long::{ASKED, numbered_blocks};
 use file_scratch::{FileScratch, GATHERED_BYTES};
-use lc_base::{Key, TextList, zeros};
-use lc_io::{MemScratch, Scratch};
-use lineage_index::Steps;
-use merkle_dag::{Lineage, QueryError};
+use lc_base::{Kind, TextList, zeros};
+use lc_io::Scratch;
+use merkle_dag::QueryError;
 use std::alloc::Global;
 use std::fs;
 use std::fs::File;
@@ -29,163 +26,153 @@ const BEFORE: usize = GATHERED_BYTES - 10_000;
 /// The file of a device, in the current folder.
 const FILE: &str = "lineage_tests.scratch";
 
-/// The key `raw/` with a number.
-fn numbered_key(alloc: Global, number: u32) -> Option<Key> {
-    let name = format!(in alloc; "raw/{number}").ok()?;
-    Key::new(name.as_bytes()).ok()
-}
-
-/// Adds a transaction that writes the int 5 to the key `raw/` with a number.
-fn add_numbered_key(alloc: Global, txs: &mut TxList, number: u32) -> Option<()> {
-    let key = numbered_key(alloc, number)?;
-    let tx = set(alloc, key, 5)?;
-    txs.push(tx).ok()
-}
+/// The number of questions about the key with very many versions.
+const QUESTIONS: u32 = 2_000_000;
 
 /// One block, which writes the keys `raw/0`, `raw/1` and so on, each with the int 5.
 fn block_of_keys(alloc: Global) -> Option<TextList> {
-    let mut txs = TxList::new(alloc);
-    for number in 0..KEYS {
-        add_numbered_key(alloc, &mut txs, number)?;
-    }
-    let mut blocks = TextList::new(alloc);
-    add_block(alloc, &mut blocks, txs)?;
-    Some(blocks)
+    let tx = (
+        "{\"set\":{\"sender\":\"u\",\"key\":\"raw/",
+        "\",\"value\":5}}",
+    );
+    blocks_of_numbers(alloc, ("[[", "]]"), tx, KEYS, 0, 0)
 }
 
-/// A lineage of these keys.
-fn lineage_of_keys<S: Scratch>(alloc: Global, scratch: &mut S) -> Option<Lineage>
-    ensures agrees { IfSome result (λ lineage. AgreesWith lineage (S.state scratch.new)) }
-{
-    let blocks = block_of_keys(alloc)?;
-    lineage_of(alloc, scratch, &blocks)
-}
+/// The first key has the int 5.
+const FIRST: Question<'static> = Question {
+    by_ask: true,
+    kind: Kind::Hist,
+    key: b"raw/0",
+    at: 0,
+    told: (b'i', 0, 0, 5),
+    list: &[],
+    error: None,
+    steps: (0, u64::MAX),
+};
 
-/// The int of the key `raw/` with a number.
-fn int_of<S: Scratch>(
-    alloc: Global,
-    lineage: &mut Lineage,
-    scratch: &mut S,
-    number: u32,
-) -> Result<Option<i64>, QueryError>
-    requires agrees { AgreesWith lineage.old (S.state scratch.old) }
-    ensures agrees { AgreesWith lineage.new (S.state scratch.new) }
-{
-    let Some(key) = numbered_key(alloc, number) else {
-        return Ok(None);
-    };
-    match int_at(alloc, lineage, scratch, key, 0, &mut Steps::new())? {
-        Some((_, int)) => Ok(Some(int)),
-        None => Ok(None),
-    }
-}
+/// The last key has the int 5.
+const LAST: Question<'static> = Question {
+    by_ask: true,
+    kind: Kind::Hist,
+    key: b"raw/1024",
+    at: 0,
+    told: (b'i', 0, 1_024, 5),
+    list: &[],
+    error: None,
+    steps: (0, u64::MAX),
+};
 
-/// Whether the int of the key `raw/` with a number is 5, and after this so many bodies were read.
-fn tells_five(
-    alloc: Global,
-    lineage: &mut Lineage,
-    scratch: &mut MemScratch,
-    number: u32,
-    gets: u64,
-) -> bool
-    requires agrees { AgreesWith lineage.old (state_over scratch.old.bytes) }
-    ensures agrees { AgreesWith lineage.new (state_over scratch.new.bytes) }
-{
-    int_of(alloc, lineage, scratch, number) == Ok(Some(5)) && scratch.gets() == gets
-}
+/// The first key has the int 7.
+const CHANGED: Question<'static> = Question {
+    by_ask: true,
+    kind: Kind::Hist,
+    key: b"raw/0",
+    at: 0,
+    told: (b'i', 0, 0, 7),
+    list: &[],
+    error: None,
+    steps: (0, u64::MAX),
+};
 
-/// Whether the first body, which is no longer at hand, is again after it was read, and the last one
-/// still is.
-fn reads_the_first_body(alloc: Global) -> Option<bool> {
-    let mut scratch = device(alloc, &[])?;
-    let mut lineage = lineage_of_keys(alloc, &mut scratch)?;
-    let reads = scratch.gets() == 0
-        && tells_five(alloc, &mut lineage, &mut scratch, 0, 1)
-        && tells_five(alloc, &mut lineage, &mut scratch, 0, 1)
-        && tells_five(alloc, &mut lineage, &mut scratch, KEYS - 1, 1);
-    lineage.give_up();
-    Some(reads)
-}
+/// That of the first key can't be read.
+const FAULT: Question<'static> = Question {
+    by_ask: true,
+    kind: Kind::Hist,
+    key: b"raw/0",
+    at: 0,
+    told: (b'!', 0, 0, 0),
+    list: &[],
+    error: Some(QueryError::Fault),
+    steps: (0, u64::MAX),
+};
+
+/// The first body is no longer at hand. It is again after it was read, and the last one still is.
+const READ_ONCE: [Act<'static>; 7] = [
+    Act::Gets(0, 0),
+    Act::Ask(FIRST),
+    Act::Gets(1, 1),
+    Act::Ask(FIRST),
+    Act::Gets(1, 1),
+    Act::Ask(LAST),
+    Act::Gets(1, 1),
+];
 
 #[test]
 fn bodies_at_hand_are_not_read(rt: HostRuntime) {
-    assert!(rt; reads_the_first_body(rt.alloc()) == Some(true));
+    let blocks = block_of_keys(rt.alloc());
+    assert!(rt; holds_of(rt.alloc(), blocks, &[], &READ_ONCE) == Some(true));
 }
 
-/// The ints of the first and the last of these keys over a device on this file, in which the first
-/// one was changed.
-fn ints_over<S: Scratch>(alloc: Global, scratch: &mut S, file: &File) -> Option<(i64, i64)> {
-    let before = zeros(alloc, BEFORE).ok()?;
-    scratch.put(&before).ok()?;
-    let mut lineage = lineage_of_keys(alloc, scratch)?;
-    // The body of the first row is ten bytes; its int ends at the ninth.
-    let is_written = matches!(file.write_at(&[7], BEFORE as u64 + 8), Ok(1));
-    let first = int_of(alloc, &mut lineage, scratch, 0);
-    let last = int_of(alloc, &mut lineage, scratch, KEYS - 1);
-    lineage.give_up();
-    match (is_written, first, last) {
-        (true, Ok(Some(first)), Ok(Some(last))) => Some((first, last)),
-        _ => None,
-    }
-}
-
-/// The same over a device on a new file.
-fn ints_of_changed_file(rt: &HostRuntime) -> Option<(i64, i64)> {
-    let file = File::create_new(rt, FILE).ok()?;
-    let changed = file.try_clone().ok()?;
-    let mut scratch = FileScratch::over(rt.alloc(), rt, file).ok()?;
-    ints_over(rt.alloc(), &mut scratch, &changed)
-}
-
-#[test]
-fn bodies_are_read_from_the_file(rt: HostRuntime) {
-    assert!(rt; ints_of_changed_file(&rt) == Some((7, 5)));
-    assert!(rt; fs::remove_file(&rt, FILE).is_ok());
-}
-
-/// What the int of a key is, or why it can't be told.
-type Int = Result<Option<i64>, QueryError>;
-
-/// The ints of the first key, of the last one, and of the first one twice more, over a device whose
-/// first two calls after the puts of the bodies fail.
-fn ints_after_failed_gets(alloc: Global) -> Option<[Int; 4]> {
-    let mut scratch = device(alloc, &[FIRST_GET, FIRST_GET + 1])?;
-    let mut lineage = lineage_of_keys(alloc, &mut scratch)?;
-    let ints = [
-        int_of(alloc, &mut lineage, &mut scratch, 0),
-        int_of(alloc, &mut lineage, &mut scratch, KEYS - 1),
-        int_of(alloc, &mut lineage, &mut scratch, 0),
-        int_of(alloc, &mut lineage, &mut scratch, 0),
-    ];
-    lineage.give_up();
-    Some(ints)
-}
+/// The first body is a fault twice. Then it is read, and is at hand; the last one always was.
+const READ_LATER: [Act<'static>; 4] = [
+    Act::Ask(FAULT),
+    Act::Ask(LAST),
+    Act::Ask(FAULT),
+    Act::Ask(FIRST),
+];
 
 #[test]
 fn failed_get_is_a_fault(rt: HostRuntime) {
-    // The first body is a fault twice. Then it is read, and is at hand; the last one always was.
-    let wanted = [
-        Err(QueryError::Fault),
-        Ok(Some(5)),
-        Err(QueryError::Fault),
-        Ok(Some(5)),
-    ];
-    assert!(rt; ints_after_failed_gets(rt.alloc()) == Some(wanted));
-}
-
-/// Whether a lineage of these keys can be made over a device whose last put of a body fails.
-fn is_made_despite_failed_put(alloc: Global) -> Option<bool> {
-    let mut scratch = device(alloc, &[FIRST_GET - 1])?;
-    match lineage_of_keys(alloc, &mut scratch) {
-        Some(lineage) => {
-            lineage.give_up();
-            Some(true)
-        }
-        None => Some(false),
-    }
+    let blocks = block_of_keys(rt.alloc());
+    let failing = [FIRST_GET, FIRST_GET + 1];
+    assert!(rt; holds_of(rt.alloc(), blocks, &failing, &READ_LATER) == Some(true));
 }
 
 #[test]
 fn failed_put_ends_the_block(rt: HostRuntime) {
-    assert!(rt; is_made_despite_failed_put(rt.alloc()) == Some(false));
+    let blocks = block_of_keys(rt.alloc());
+    assert!(rt; holds_of(rt.alloc(), blocks, &[FIRST_GET - 1], &[]).is_none());
+}
+
+/// Whether the int of the first key is 7 and that of the last one is 5 over a device on this file, in
+/// which the first one is changed once it is in the file.
+fn tells_of_change<S: Scratch>(
+    alloc: Global,
+    scratch: &mut S,
+    file: &File,
+    blocks: &TextList,
+) -> bool {
+    let is_put = match zeros(alloc, BEFORE) {
+        Ok(before) => scratch.put(&before).is_ok(),
+        Err(_) => false,
+    };
+    let Some(mut lineage) = lineage_of(alloc, scratch, blocks) else {
+        return false;
+    };
+    // The body of the first row is ten bytes; its int ends at the ninth.
+    let is_written = matches!(file.write_at(&[7], BEFORE as u64 + 8), Ok(1));
+    let is_changed = tells(alloc, &mut lineage, scratch, &CHANGED);
+    let is_kept = tells(alloc, &mut lineage, scratch, &LAST);
+    lineage.give_up();
+    is_put && is_written && is_changed && is_kept
+}
+
+/// The same over a device on a new file.
+fn tells_of_changed_file(rt: &HostRuntime, blocks: &TextList) -> Option<bool> {
+    let file = File::create_new(rt, FILE).ok()?;
+    let changed = file.try_clone().ok()?;
+    let mut scratch = FileScratch::over(rt.alloc(), rt, file).ok()?;
+    Some(tells_of_change(rt.alloc(), &mut scratch, &changed, blocks))
+}
+
+#[test]
+fn bodies_are_read_from_the_file(rt: HostRuntime) {
+    let told = match block_of_keys(rt.alloc()) {
+        Some(blocks) => tells_of_changed_file(&rt, &blocks),
+        None => None,
+    };
+    assert!(rt; told == Some(true));
+    assert!(rt; fs::remove_file(&rt, FILE).is_ok());
+}
+
+/// Each body is read once.
+const OFTEN: [Act<'static>; 2] = [
+    Act::AskOften(QUESTIONS),
+    Act::Gets(ASKED as u64, ASKED as u64),
+];
+
+#[test]
+fn bodies_at_hand_answer_very_many_questions(rt: HostRuntime) {
+    let blocks = numbered_blocks(rt.alloc());
+    assert!(rt; holds_of(rt.alloc(), blocks, &[], &OFTEN) == Some(true));
 }

@@ -3,15 +3,15 @@
 #![tactic(auto)]
 
 #[cfg(test)]
+mod acts;
+#[cfg(test)]
 mod alike;
 #[cfg(test)]
 mod asked;
 #[cfg(test)]
+mod contracts;
+#[cfg(test)]
 mod devices;
-#[cfg(test)]
-mod drops;
-#[cfg(test)]
-mod faults;
 #[cfg(test)]
 mod gone;
 #[cfg(test)]
@@ -22,8 +22,6 @@ mod lists;
 mod long;
 #[cfg(test)]
 mod ranges;
-#[cfg(test)]
-mod roots;
 #[cfg(test)]
 mod tests;
 mod versions;

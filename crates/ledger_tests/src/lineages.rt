@@ -1,19 +1,17 @@
-//! Chains and lineages that are made from the bytes of their blocks.
+//! Chains and lineages that are made from the bytes of their blocks, and what they answer.
 
 ghost use Rattle.std.specs.Prelude.{◌≡◌, ◌+◌, ◌≤◌, length, IfSome};
 ghost use Rattle.block_codec.specs.declared.limits.TheConstants.{MAX_BLOCKS};
 ghost use Rattle.merkle_dag.specs.Lineage.{AgreesWith};
 
-use block_codec::{Block, FIRST_VERSION, MAX_BLOCKS, NO_PARENT, Tx, TxList, block_digest, encode};
+use block_codec::{FIRST_VERSION, MAX_BLOCKS};
 use chain_pack::pack;
 use chain_replay::{Judged, Marking, Replay};
-use lc_base::{
-    Answer, Bytes, Digest, Key, KeyList, Kind, Memory, Query, Resources, TextList, Value, Zeros,
-};
+use lc_base::{Answer, Dep, Key, Kind, Query, Resources, TextList, Value, Zeros};
 use lc_io::{MemScratch, Room, Scratch};
 use lineage_index::Steps;
 use merkle_dag::{Lineage, QueryError};
-use prov_query::ask;
+use prov_query::{answer, ask};
 use rooted_chain::LineageChain;
 use std::alloc::Global;
 
@@ -23,66 +21,59 @@ const ROOM: Room = Room {
     bytes: 10_000_000,
 };
 
-/// A transaction that writes an int, without dependencies.
-pub(crate) fn set(alloc: Global, key: Key, number: i64) -> Option<Tx> {
-    Some(Tx::Set {
-        sender: Key::new(b"u").ok()?,
-        key,
-        value: Value::Int(number),
-        deps: KeyList::new(alloc),
-    })
-}
+/// What stands before and after something.
+pub(crate) type Ends<'e> = (&'e str, &'e str);
 
-/// The list of one transaction.
-pub(crate) fn list_of(alloc: Global, tx: Tx) -> Option<TxList> {
-    let mut txs = TxList::new(alloc);
-    match txs.push(tx) {
-        Ok(()) => Some(txs),
-        Err(Memory) => None,
+/// Appends a number between two texts.
+fn put_number(alloc: Global, draft: &mut Vec<u8>, ends: Ends<'_>, number: u32) -> bool {
+    let (front, back) = ends;
+    match format!(in alloc; "{front}{number}{back},") {
+        Ok(text) => draft.extend_from_slice(text.as_bytes()).is_ok(),
+        Err(_) => false,
     }
 }
 
-/// The digest of the last of these blocks.
-fn parent_of_next(blocks: &TextList) -> Digest {
-    match blocks.as_slice().last() {
-        Some(last) => block_digest(last.as_bytes()),
-        None => NO_PARENT,
-    }
-}
-
-/// The bytes of the block after these ones, which has this version and these transactions.
-fn next_block(alloc: Global, blocks: &TextList, version: u8, txs: TxList) -> Option<Bytes> {
-    let number = u32::try_from(blocks.len()).ok()?;
-    let block = Block {
-        version,
-        number,
-        parent: parent_of_next(blocks),
-        txs,
-    };
-    encode(alloc, &block).ok()
-}
-
-/// Adds the bytes of the next block, of the first version, which has these transactions.
-pub(crate) fn add_block(alloc: Global, blocks: &mut TextList, txs: TxList) -> Option<()> {
-    add_block_of(alloc, blocks, FIRST_VERSION, txs)
-}
-
-/// Adds the bytes of the next block, which has this version and these transactions.
-pub(crate) fn add_block_of(
+/// Appends the numbers up to `count`, each between two texts, or an empty block in its place if it
+/// is from `from` up to `to`; there is a comma between them.
+fn put_numbers(
     alloc: Global,
-    blocks: &mut TextList,
-    version: u8,
-    txs: TxList,
-) -> Option<()> {
-    let bytes = next_block(alloc, blocks, version, txs)?;
-    blocks.push(bytes).ok()
+    draft: &mut Vec<u8>,
+    ends: Ends<'_>,
+    count: u32,
+    from: u32,
+    to: u32,
+) -> bool {
+    for number in 0..count {
+        let is_put = if from <= number && number < to {
+            draft.extend_from_slice(b"[],").is_ok()
+        } else {
+            put_number(alloc, draft, ends, number)
+        };
+        if !is_put {
+            return false;
+        }
+    }
+    draft.pop() == Some(b',')
 }
 
-/// Adds the bytes of the next block, of the first version, which writes its number to the key.
-pub(crate) fn add_numbered_block(alloc: Global, blocks: &mut TextList, key: Key) -> Option<()> {
-    let number = i64::try_from(blocks.len()).ok()?;
-    let tx = set(alloc, key, number)?;
-    add_block(alloc, blocks, list_of(alloc, tx)?)
+/// The blocks of the draft that has these numbers between two texts.
+pub(crate) fn blocks_of_numbers(
+    alloc: Global,
+    whole: Ends<'_>,
+    ends: Ends<'_>,
+    count: u32,
+    from: u32,
+    to: u32,
+) -> Option<TextList> {
+    let mut draft = Vec::new(alloc);
+    let is_put = draft.extend_from_slice(whole.0.as_bytes()).is_ok()
+        && put_numbers(alloc, &mut draft, ends, count, from, to)
+        && draft.extend_from_slice(whole.1.as_bytes()).is_ok();
+    if is_put {
+        pack(alloc, draft.as_slice(), FIRST_VERSION).ok()
+    } else {
+        None
+    }
 }
 
 /// The chain with one more block; `None` if these bytes aren't its next block, or if the device
@@ -151,46 +142,97 @@ pub(crate) fn device(alloc: Global, failing: &[u64]) -> Option<MemScratch> {
     MemScratch::new(alloc, ROOM, failing).ok()
 }
 
-/// A lineage of the blocks of a draft.
-pub(crate) fn lineage_of_draft<S: Scratch>(
-    alloc: Global,
-    scratch: &mut S,
-    draft: &[u8],
-) -> Option<Lineage>
-    ensures agrees { IfSome result (λ lineage. AgreesWith lineage (S.state scratch.new)) }
-{
-    let blocks = pack(alloc, draft, FIRST_VERSION).ok()?;
-    lineage_of(alloc, scratch, &blocks)
-}
+/// What is told of an answer: a letter for its kind, the block of the version, the index of the
+/// transaction there, and the int; the text; and the list.
+type Parts<'a> = (u8, u32, u16, i64, &'a [u8], &'a [Dep]);
 
-/// The int of an answer, and the block of its version.
-fn int_in(answer: &Answer) -> Option<(u32, i64)> {
+fn parts_of(answer: &Answer) -> Parts<'_> {
     match answer {
-        Answer::Hist {
-            block,
-            value: Value::Int(number),
-            ..
-        } => Some((*block, *number)),
-        _ => None,
+        Answer::Nothing => (b'-', 0, 0, 0, &[], &[]),
+        Answer::Hist { block, tx, value } => match value {
+            Value::Int(number) => (b'i', *block, *tx, *number, &[], &[]),
+            Value::Text(text) => (b't', *block, *tx, 0, text.as_bytes(), &[]),
+            Value::Gone => (b'g', *block, *tx, 0, &[], &[]),
+        },
+        Answer::Back { block, deps } => (b'b', *block, 0, 0, &[], deps.as_slice()),
+        Answer::Fwd { block, uses } => (b'f', *block, 0, 0, &[], uses.as_slice()),
     }
 }
 
-/// The int of a key at a block, and the block of its version.
-pub(crate) fn int_at<S: Scratch>(
+/// Whether two answers are the same.
+pub(crate) fn is_same_answer(one: &Answer, other: &Answer) -> bool {
+    parts_of(one) == parts_of(other)
+}
+
+/// Whether these are versions of these keys, each in the block beside it.
+pub(crate) fn are_versions(found: &[Dep], wanted: &[(&[u8], u32)]) -> bool {
+    for (dep, (key, block)) in found.iter().zip(wanted) {
+        if dep.key.as_bytes() != *key || dep.block != *block {
+            return false;
+        }
+    }
+    found.len() == wanted.len()
+}
+
+/// A question, and what it must be answered with.
+#[derive(Clone, Copy)]
+pub(crate) struct Question<'q> {
+    /// Whether `ask` is called, and not `answer`.
+    pub(crate) by_ask: bool,
+    pub(crate) kind: Kind,
+    pub(crate) key: &'q [u8],
+    pub(crate) at: u32,
+    /// What is told of the answer: a letter for its kind (`i` of an int, `b` and `f` of lists), the
+    /// block of the version, the index of the transaction there, and the int.
+    pub(crate) told: (u8, u32, u16, i64),
+    /// The list: the versions of these keys, each in the block beside it.
+    pub(crate) list: &'q [(&'q [u8], u32)],
+    /// Why there is no answer, if there must be none.
+    pub(crate) error: Option<QueryError>,
+    /// The least and the most versions that may be looked at.
+    pub(crate) steps: (u64, u64),
+}
+
+/// Whether this is what a question must be answered with, once so many versions were looked at.
+fn is_answer(found: &Result<Answer, QueryError>, question: &Question<'_>, steps: u64) -> bool {
+    let (least, most) = question.steps;
+    if steps < least || most < steps {
+        return false;
+    }
+    match found {
+        Ok(answer) => {
+            let (letter, block, tx, number, text, list) = parts_of(answer);
+            (letter, block, tx, number) == question.told
+                && text.is_empty()
+                && are_versions(list, question.list)
+        }
+        Err(error) => Some(*error) == question.error,
+    }
+}
+
+/// Whether a lineage answers a question as it must.
+pub(crate) fn tells<S: Scratch>(
     alloc: Global,
     lineage: &mut Lineage,
     scratch: &mut S,
-    key: Key,
-    at: u32,
-    steps: &mut Steps,
-) -> Result<Option<(u32, i64)>, QueryError>
+    question: &Question<'_>,
+) -> bool
     requires agrees { AgreesWith lineage.old (S.state scratch.old) }
     ensures agrees { AgreesWith lineage.new (S.state scratch.new) }
 {
-    let kind = Kind::Hist;
+    let Ok(key) = Key::new(question.key) else {
+        return false;
+    };
+    let (kind, at) = (question.kind, question.at);
     let query = Query { kind, key, at };
-    match ask(alloc, lineage, scratch, &query, steps) {
-        Ok(answer) => Ok(int_in(&answer)),
-        Err(error) => Err(error),
+    let mut steps = Steps::new();
+    if question.by_ask {
+        let found = ask(alloc, lineage, scratch, &query, &mut steps);
+        is_answer(&found, question, steps.count())
+    } else {
+        match answer(alloc, lineage, scratch, &query, &mut steps) {
+            Ok(answer) => is_answer(&Ok(answer), question, steps.count()),
+            Err(_) => false,
+        }
     }
 }

@@ -1,9 +1,12 @@
 //! The open list of a key, and the lists that later versions of a key closed.
 
-use crate::lineages::{device, lineage_of_draft};
+ghost use Rattle.std.specs.Prelude.{◌≡◌};
+
+use crate::acts::{Act, holds_of};
+use block_codec::FIRST_VERSION;
+use chain_pack::pack;
 use lc_base::Key;
 use merkle_dag::Lineage;
-use std::alloc::Global;
 
 /// The draft of four blocks of six rows. A lot is made of the first version of a part, then the
 /// part has a second one, of which another lot is made.
@@ -24,58 +27,35 @@ const DRAFT: &[u8] = br#"[
   ]
 ]"#;
 
-/// The open list of each key, if it has rows. The newest version of each part has the lot that was
-/// made of it, a key without rows has no list, and a lot of which nothing was made has an empty one.
-const OPEN_LISTS: [(&[u8], Option<&[u32]>); 4] = [
-    (b"raw/part/p1", Some(&[5])),
-    (b"raw/part/p2", Some(&[4])),
-    (b"raw/part/p3", None),
-    (b"raw/lot/l1", Some(&[])),
+/// The lists. The newest version of each part has the lot that was made of it, a key without rows
+/// has no list, and a lot of which nothing was made has an empty one. The first version of the part
+/// that has two holds the lot that was made of it, and the newest versions hold nothing.
+const LISTS: [Act<'static>; 7] = [
+    Act::OpenList(b"raw/part/p1", Some(&[5])),
+    Act::OpenList(b"raw/part/p2", Some(&[4])),
+    Act::OpenList(b"raw/part/p3", None),
+    Act::OpenList(b"raw/lot/l1", Some(&[])),
+    Act::ClosedList(6, 0, &[2]),
+    Act::ClosedList(6, 1, &[]),
+    Act::ClosedList(6, 3, &[]),
 ];
 
 /// Whether the open list of a key is this one.
-fn has_open_list(lineage: &Lineage, key: &[u8], wanted: Option<&[u32]>) -> bool {
+pub(crate) fn has_open_list(lineage: &Lineage, key: &[u8], wanted: Option<&[u32]>) -> bool {
     let Ok(key) = Key::new(key) else {
         return false;
     };
-    match (lineage.open_list(&key), wanted) {
-        (Some(list), Some(wanted)) => list == wanted,
-        (None, None) => true,
-        _ => false,
-    }
+    lineage.open_list(&key) == wanted
 }
 
-/// Whether each key has the open list that stands beside it.
-fn has_open_lists(lineage: &Lineage) -> bool {
-    for (key, wanted) in OPEN_LISTS {
-        if !has_open_list(lineage, key, wanted) {
-            return false;
-        }
-    }
-    true
-}
-
-/// Whether the first version of the part that has two holds the lot that was made of it, and the
-/// newest versions hold nothing.
-fn has_closed_lists(lineage: &Lineage) -> bool {
-    if lineage.row_count() != 6 {
-        return false;
-    }
-    let made_of_first: &[u32] = &[2];
-    let is_held = lineage.closed_list(0) == made_of_first;
-    is_held && lineage.closed_list(1).is_empty() && lineage.closed_list(3).is_empty()
-}
-
-/// Whether a lineage of the draft has these open lists, and these closed ones.
-fn has_lists(alloc: Global) -> Option<(bool, bool)> {
-    let mut scratch = device(alloc, &[])?;
-    let lineage = lineage_of_draft(alloc, &mut scratch, DRAFT)?;
-    let lists = (has_open_lists(&lineage), has_closed_lists(&lineage));
-    lineage.give_up();
-    Some(lists)
+/// Whether there are as many rows, and the closed list of the one of an index is this one.
+pub(crate) fn has_closed_list(lineage: &Lineage, rows: usize, index: u32, wanted: &[u32]) -> bool {
+    let count = lineage.row_count();
+    count == rows && (index as usize) < count && lineage.closed_list(index) == wanted
 }
 
 #[test]
 fn next_version_closes_the_list(rt: HostRuntime) {
-    assert!(rt; has_lists(rt.alloc()) == Some((true, true)));
+    let blocks = pack(rt.alloc(), DRAFT, FIRST_VERSION).ok();
+    assert!(rt; holds_of(rt.alloc(), blocks, &[], &LISTS) == Some(true));
 }

@@ -110,14 +110,6 @@ fn block_at(store: &Store, index: u32) -> Option<u32> {
     }
 }
 
-/// The block of an entry; `None` if there is no entry.
-fn block_of(store: &Store, id: Option<EntryId>) -> Option<u32> {
-    match id {
-        None => None,
-        Some(id) => block_at(store, id.0),
-    }
-}
-
 fn blocks_of(alloc: Global, store: &Store, ids: &[EntryId]) -> Result<Vec<u32>, Memory> {
     let mut blocks = Vec::new(alloc);
     for id in ids {
@@ -159,8 +151,11 @@ impl Versions {
         match self.newest {
             None => (None, 0),
             Some(newest) => {
-                let found = find(&self.store, newest.id, at, &mut steps);
-                (block_of(&self.store, found), steps.count())
+                let block = match find(&self.store, newest.id, at, &mut steps) {
+                    None => None,
+                    Some(id) => block_at(&self.store, id.0),
+                };
+                (block, steps.count())
             }
         }
     }

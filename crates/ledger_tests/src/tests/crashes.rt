@@ -18,16 +18,13 @@ fn write_twice<M: Disk + Wire>(machine: &mut M) -> Result<(), Failed> {
     machine.tell(b"line\n")
 }
 
-/// Whether a crash at a moment, which keeps `keep` of the bytes that were not synced, leaves the
-/// bytes of `image`; `short` cuts them to what was synced.
-fn leaves(
-    alloc: Global,
-    machine: &MemMachine,
-    moment: u64,
-    keep: u64,
-    short: bool,
-    image: &[u8],
-) -> bool {
+/// A crash: the moment, how many of the bytes that were not synced are kept, whether the disk is cut
+/// to what was synced, and the bytes that are left.
+type Crash = (u64, u64, bool, &'static [u8]);
+
+/// Whether a crash leaves these bytes.
+fn leaves(alloc: Global, machine: &MemMachine, crash: &Crash) -> bool {
+    let (moment, keep, short, image) = *crash;
     if machine.moment() < moment {
         return false;
     }
@@ -37,9 +34,8 @@ fn leaves(
     }
 }
 
-/// Crashes: the moment, how many of the bytes that were not synced are kept, whether the disk is cut
-/// to what was synced, and the bytes that are left.
-const CRASHES: [(u64, u64, bool, &[u8]); 14] = [
+/// What crashes leave after four calls.
+const CRASHES: [Crash; 14] = [
     // Before the first call.
     (0, 0, false, b"ab"),
     (0, 0, true, b"ab"),
@@ -60,35 +56,48 @@ const CRASHES: [(u64, u64, bool, &[u8]); 14] = [
     (4, 0, true, b"abcd.."),
 ];
 
-#[test]
-fn crashes_at_each_moment(rt: HostRuntime) {
-    let alloc = rt.alloc();
-    let Ok(mut machine) = MemMachine::new(alloc, b"ab", ROOM, &[]) else {
-        assert!(rt; false);
-        return;
+/// What crashes leave after a write that failed, and a sync.
+const LATER_CRASHES: [Crash; 3] = [
+    (1, 0, false, b"a."),
+    (1, 1, false, b"ab"),
+    (2, 0, false, b"ab"),
+];
+
+fn all_leave(alloc: Global, machine: &MemMachine, crashes: &[Crash]) -> bool {
+    for crash in crashes {
+        if !leaves(alloc, machine, crash) {
+            return false;
+        }
+    }
+    true
+}
+
+/// Whether crashes leave what they must of a machine that has done its calls; the first write fails
+/// or not.
+fn are_left(alloc: Global, fails: bool) -> bool {
+    let failing: &[u64] = if fails { &[0] } else { &[] };
+    let Ok(mut machine) = MemMachine::new(alloc, b"ab", ROOM, failing) else {
+        return false;
     };
-    assert!(rt; write_twice(&mut machine) == Ok(()));
-    assert!(rt; machine.moment() == 4);
-    for (moment, keep, short, image) in CRASHES {
-        assert!(rt;
-            leaves(alloc, &machine, moment, keep, short, image),
-            "at moment {moment}"
-        );
+    if fails {
+        // A write that fails leaves its bytes as they were, and not synced.
+        machine.write_at(1, b"xy") == Err(Failed)
+            && machine.moment() == 1
+            && machine.sync() == Ok(())
+            && all_leave(alloc, &machine, &LATER_CRASHES)
+    } else {
+        write_twice(&mut machine) == Ok(())
+            && machine.moment() == 4
+            && all_leave(alloc, &machine, &CRASHES)
     }
 }
 
 #[test]
+fn crashes_at_each_moment(rt: HostRuntime) {
+    assert!(rt; are_left(rt.alloc(), false));
+}
+
+#[test]
 fn crash_after_a_failed_write(rt: HostRuntime) {
-    // A write that fails leaves its bytes as they were, and not synced.
-    let alloc = rt.alloc();
-    let Ok(mut machine) = MemMachine::new(alloc, b"ab", ROOM, &[0]) else {
-        assert!(rt; false);
-        return;
-    };
-    assert!(rt; machine.write_at(1, b"xy") == Err(Failed));
-    assert!(rt; machine.moment() == 1);
-    assert!(rt; leaves(alloc, &machine, 1, 0, false, b"a."));
-    assert!(rt; leaves(alloc, &machine, 1, 1, false, b"ab"));
-    assert!(rt; machine.sync() == Ok(()));
-    assert!(rt; leaves(alloc, &machine, 2, 0, false, b"ab"));
+    assert!(rt; are_left(rt.alloc(), true));
 }

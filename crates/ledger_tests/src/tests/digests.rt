@@ -14,39 +14,44 @@ const LONGER: &str = "cf5b16a778af8380036ce59e7b0492370b249b11e8f07a51afac45037a
 
 const MILLION: &str = "cdc76e5c9914fb9281a1c7e284d73e67f1809a48a497200e046d39ccc7112cd0";
 
-/// Whether these digits spell a digest in hex.
-fn is_spelled(digest: [u8; 32], digits: &str) -> bool {
+/// Messages: two pieces after the tag, as many tags after these, and the digest.
+const MESSAGES: [(&[u8], &[u8], u32, &str); 5] = [
+    (b"bc", b"", 0, ONE_BLOCK),
+    (b"b", b"c", 0, ONE_BLOCK),
+    (
+        b"bcdbcdecdefdefgefghfghighijhijkijkljklmklmnlmnomnopnopq",
+        b"",
+        0,
+        TWO_BLOCKS,
+    ),
+    (
+        b"bcdefghbcdefghicdefghijdefghijkefghijklfghijklmghijklmnhijklmno",
+        b"ijklmnopjklmnopqklmnopqrlmnopqrsmnopqrstnopqrstu",
+        0,
+        LONGER,
+    ),
+    (b"", b"", 999_999, MILLION),
+];
+
+/// Whether the digest of the tag, of these pieces, and of as many tags is spelled by these digits in
+/// hex.
+fn has_digest(first: &[u8], second: &[u8], count: u32, digits: &str) -> bool {
+    let mut hasher = TagHasher::new(TAG);
+    hasher.add(first);
+    hasher.add(second);
+    for _ in 0..count {
+        hasher.add(&[TAG]);
+    }
+    let digest = hasher.finish();
     match <[u8; 32] as FromHex>::from_hex(digits) {
-        Ok(wanted) => digest == wanted,
+        Ok(wanted) => digest.0 == wanted,
         Err(_) => false,
     }
 }
 
-/// The digest of the tag and of these bytes, which are added in two pieces.
-fn digest_of(first: &[u8], second: &[u8]) -> [u8; 32] {
-    let mut hasher = TagHasher::new(TAG);
-    hasher.add(first);
-    hasher.add(second);
-    hasher.finish().0
-}
-
-/// The digest of `count` times `a`, the first of which is the tag.
-fn digest_of_repeated(count: u32) -> [u8; 32] {
-    let mut hasher = TagHasher::new(TAG);
-    for _ in 1..count {
-        hasher.add(&[TAG]);
-    }
-    hasher.finish().0
-}
-
 #[test]
 fn published_digests(rt: HostRuntime) {
-    assert!(rt; is_spelled(digest_of(b"bc", b""), ONE_BLOCK));
-    assert!(rt; is_spelled(digest_of(b"b", b"c"), ONE_BLOCK));
-    let two = b"bcdbcdecdefdefgefghfghighijhijkijkljklmklmnlmnomnopnopq";
-    assert!(rt; is_spelled(digest_of(two, b""), TWO_BLOCKS));
-    let start = b"bcdefghbcdefghicdefghijdefghijkefghijklfghijklmghijklmnhijklmno";
-    let rest = b"ijklmnopjklmnopqklmnopqrlmnopqrsmnopqrstnopqrstu";
-    assert!(rt; is_spelled(digest_of(start, rest), LONGER));
-    assert!(rt; is_spelled(digest_of_repeated(1_000_000), MILLION));
+    for (first, second, count, digits) in MESSAGES {
+        assert!(rt; has_digest(first, second, count, digits));
+    }
 }

@@ -37,12 +37,11 @@ fn edge_of_a_reader(rt: HostRuntime) {
     // A read that fails is not tried again, and what follows is still there.
     let mut buffer = [0; 2];
     let mut source = HostStream::new(FailsOnce { reads: 0 });
-    assert!(rt; source.pull(&mut buffer) == Ok(1));
-    assert!(rt; source.pull(&mut buffer) == Err(Failed));
-    assert!(rt; buffer == [b'a', 0]);
-    assert!(rt; source.pull(&mut buffer) == Ok(1));
-    assert!(rt; buffer == [b'b', 0]);
-    assert!(rt; source.pull(&mut buffer) == Ok(0));
+    let first = [source.pull(&mut buffer), source.pull(&mut buffer)];
+    let then = buffer;
+    let second = [source.pull(&mut buffer), source.pull(&mut buffer)];
+    assert!(rt; first == [Ok(1), Err(Failed)] && then == [b'a', 0]);
+    assert!(rt; second == [Ok(1), Ok(0)] && buffer == [b'b', 0]);
 }
 
 /// A writer that takes one byte at each write. The second write fails.
@@ -69,179 +68,188 @@ impl Write for TakesOne {
 fn edge_of_a_writer(rt: HostRuntime) {
     // A write that fails is not tried again, and the next piece is printed.
     let mut wire = HostStream::new(TakesOne { writes: 0 });
-    assert!(rt; wire.tell(b"ab") == Err(Failed));
-    assert!(rt; wire.tell(b"cd") == Ok(()));
+    assert!(rt; [wire.tell(b"ab"), wire.tell(b"cd")] == [Err(Failed), Ok(())]);
 }
 
-/// A file of the current folder, which exists neither before the test nor after it.
+/// Files of the current folder, which exist neither before the test nor after it.
 const FILE: &str = "chain_tests.file";
 
-/// Writes to a disk of length 0, which has nothing to sync, and prints a line; returns that length.
-fn write_and_tell<M: Disk + Wire>(machine: &mut M) -> Result<u64, Failed> {
-    let before = machine.len()?;
-    machine.sync()?;
-    machine.write_at(0, b"abcdef")?;
-    machine.sync()?;
-    machine.write_at(4, b"xyz")?;
-    machine.tell(b"line\n")?;
-    Ok(before)
-}
-
-/// The length of a disk, and how many bytes were read into the buffer from a place.
-fn read_from<M: Disk>(machine: &mut M, at: u64, buffer: &mut [u8]) -> Result<(u64, usize), Failed> {
-    let len = machine.len()?;
-    let count = machine.read_at(at, buffer)?;
-    Ok((len, count))
-}
-
-/// Writes the file, as a disk.
-fn write_file(rt: &HostRuntime, told: &mut Vec<u8>) -> Result<u64, Failed> {
-    write_and_tell(&mut FileMachine::new(rt, FILE, told))
-}
-
-/// Reads a file from a place, as a disk.
-fn read_file(
-    rt: &HostRuntime,
-    name: &str,
-    at: u64,
-    buffer: &mut [u8],
-) -> Result<(u64, usize), Failed> {
-    let mut told: Vec<u8> = Vec::new(rt.alloc());
-    read_from(&mut FileMachine::new(rt, name, &mut told), at, buffer)
-}
-
-/// Whether a file can be removed.
-fn is_removed(rt: &HostRuntime, name: &str) -> bool {
-    fs::remove_file(rt, name).is_ok()
-}
-
-#[test]
-fn edge_of_a_file(rt: HostRuntime) {
-    let mut told = Vec::new(rt.alloc());
-    assert!(rt; write_file(&rt, &mut told) == Ok(0));
-    assert!(rt; told.as_slice() == b"line\n".as_slice());
-    // Another machine finds just what the first one wrote.
-    let mut buffer = [0; 8];
-    assert!(rt; read_file(&rt, FILE, 3, &mut buffer) == Ok((7, 4)));
-    assert!(rt; buffer == *b"dxyz\0\0\0\0");
-    assert!(rt; is_removed(&rt, FILE));
-}
-
-/// What a disk answers that is asked its length, and then is written to.
-fn ask_and_write<M: Disk>(machine: &mut M) -> (Result<u64, Failed>, Result<(), Failed>) {
-    let len = machine.len();
-    (len, machine.write_at(0, b"a"))
-}
-
-#[test]
-fn folder_in_place_of_a_file(rt: HostRuntime) {
-    let mut told: Vec<u8> = Vec::new(rt.alloc());
-    let answers = ask_and_write(&mut FileMachine::new(&rt, ".", &mut told));
-    assert!(rt; answers == (Err(Failed), Err(Failed)));
-}
-
-/// A file of the current folder, which exists neither before the test nor after it.
 const LONG_FILE: &str = "chain_tests.long";
 
-/// Its length, past the last offset of 32 bits. Nothing is written to most of it, so it takes
-/// little space.
+/// The length of the long file, past the last offset of 32 bits. Nothing is written to most of it,
+/// so it takes little space.
 const LONG_LEN: u64 = 0x1_0000_0005;
 
-/// The place that the last byte of the file would have if its offset were cut to 32 bits.
+/// The place that the last byte of the long file would have if its offset were cut to 32 bits.
 const SHORT_PLACE: u64 = 4;
 
-fn make_long_file(rt: &HostRuntime) -> Result<(), Failed> {
-    let file = File::create_new(rt, LONG_FILE).map_err(|_| Failed)?;
-    file.set_len(LONG_LEN).map_err(|_| Failed)
-}
-
-/// Writes behind the end of the long file, and then over its last byte; returns its length before.
-fn write_past_end<W>(machine: &mut FileMachine<W>) -> Result<u64, Failed> {
-    machine.sync()?;
-    let before = machine.len()?;
-    machine.write_at(LONG_LEN, b"xyz")?;
-    machine.sync()?;
-    machine.write_at(LONG_LEN - 1, b"w")?;
-    machine.sync()?;
-    Ok(before)
-}
-
-/// Writes the long file, as a disk.
-fn write_long_file(rt: &HostRuntime, told: &mut Vec<u8>) -> Result<u64, Failed> {
-    write_past_end(&mut FileMachine::new(rt, LONG_FILE, told))
-}
-
-/// Reads the long file from a place, as a disk.
-fn read_long_file(rt: &HostRuntime, at: u64, buffer: &mut [u8]) -> Result<(u64, usize), Failed> {
-    read_file(rt, LONG_FILE, at, buffer)
-}
-
-#[test]
-fn file_past_four_gigabytes(rt: HostRuntime) {
-    let mut told = Vec::new(rt.alloc());
-    assert!(rt; make_long_file(&rt) == Ok(()));
-    assert!(rt; write_long_file(&rt, &mut told) == Ok(LONG_LEN));
-    let mut buffer = [1; 6];
-    assert!(rt; read_long_file(&rt, LONG_LEN - 1, &mut buffer) == Ok((LONG_LEN + 3, 4)));
-    assert!(rt; buffer == [b'w', b'x', b'y', b'z', 1, 1]);
-    assert!(rt; read_long_file(&rt, SHORT_PLACE, &mut buffer) == Ok((LONG_LEN + 3, 6)));
-    assert!(rt; buffer == [0; 6]);
-    assert!(rt; is_removed(&rt, LONG_FILE));
-}
-
-/// What two machines over one file answer, in order.
+/// A call of a machine over a file, and what it must return.
 #[derive(Clone, Copy)]
-struct Locking {
-    sync_of_one: Result<(), Failed>,
-    len_of_other: Result<u64, Failed>,
-    sync_of_other: Result<(), Failed>,
-    write_of_other: Result<(), Failed>,
-    write_of_one: Result<(), Failed>,
-    len_after_write: Result<u64, Failed>,
-    is_removed: bool,
-    sync_after_removal: Result<(), Failed>,
+enum Act {
+    Len(Result<u64, Failed>),
+    /// From this place so many bytes are read into a buffer of ones, which is then this one.
+    Read(u64, usize, [u8; 8]),
+    Write(u64, &'static [u8], Result<(), Failed>),
+    Sync(Result<(), Failed>),
+    /// A line is printed.
+    Tell,
+    /// The file is made, and has this length.
+    Make(u64),
+    /// The file is removed.
+    Remove,
+    /// There is no file.
+    Gone,
 }
 
-/// What these machines over the file answer, which is removed at last.
-fn lock<W>(rt: &HostRuntime, one: &mut FileMachine<W>, other: &mut FileMachine<W>) -> Locking {
-    Locking {
-        sync_of_one: one.sync(),
-        len_of_other: other.len(),
-        sync_of_other: other.sync(),
-        write_of_other: other.write_at(7, b"!"),
-        write_of_one: one.write_at(7, b"."),
-        len_after_write: other.len(),
-        is_removed: is_removed(rt, FILE),
-        sync_after_removal: one.sync(),
+fn is_made(rt: &HostRuntime, name: &str, len: u64) -> bool {
+    match File::create_new(rt, name) {
+        Ok(file) => file.set_len(len).is_ok(),
+        Err(_) => false,
     }
 }
 
-/// What two machines over the file answer.
-fn lock_file(rt: &HostRuntime) -> Locking {
-    let mut one_told: Vec<u8> = Vec::new(rt.alloc());
-    let mut other_told: Vec<u8> = Vec::new(rt.alloc());
-    lock(
+fn write_low<W>(machine: &mut FileMachine<W>, at: u64, bytes: &[u8]) -> Result<(), Failed> {
+    if at > LONG_LEN || bytes.len() > 8 {
+        return Err(Failed);
+    }
+    machine.write_at(at, bytes)
+}
+
+/// Whether a call of a machine over the file of a name returns what it must.
+fn does<W: Write>(rt: &HostRuntime, name: &str, machine: &mut FileMachine<W>, act: &Act) -> bool {
+    match act {
+        Act::Len(len) => machine.len() == *len,
+        Act::Read(at, count, wanted) => {
+            let mut buffer = [1; 8];
+            machine.read_at(*at, &mut buffer) == Ok(*count) && buffer == *wanted
+        }
+        Act::Write(at, bytes, wanted) => write_low(machine, *at, bytes) == *wanted,
+        Act::Sync(wanted) => machine.sync() == *wanted,
+        Act::Tell => machine.tell(b"line\n") == Ok(()),
+        Act::Make(len) => is_made(rt, name, *len),
+        Act::Remove => fs::remove_file(rt, name).is_ok(),
+        Act::Gone => !fs::exists(rt, name).unwrap_or(true),
+    }
+}
+
+/// Whether two machines over the file of a name return what they must; beside each call stands
+/// whether it is one of the other machine.
+fn do_all<W: Write>(
+    rt: &HostRuntime,
+    name: &str,
+    one: &mut FileMachine<W>,
+    other: &mut FileMachine<W>,
+    acts: &[(bool, Act)],
+) -> bool {
+    for (is_other, act) in acts {
+        let is_done = if *is_other {
+            does(rt, name, other, act)
+        } else {
+            does(rt, name, one, act)
+        };
+        if !is_done {
+            return false;
+        }
+    }
+    true
+}
+
+/// The name of a file, the calls of two new machines over it, and what the first one prints.
+type Script = (&'static str, &'static [(bool, Act)], &'static [u8]);
+
+/// Whether the calls of two new machines over the file of a name return what they must.
+fn do_all_anew<'a>(
+    rt: &'a HostRuntime,
+    name: &'a str,
+    told: &mut Vec<u8>,
+    other_told: &mut Vec<u8>,
+    acts: &[(bool, Act)],
+) -> bool {
+    do_all(
         rt,
-        &mut FileMachine::new(rt, FILE, &mut one_told),
-        &mut FileMachine::new(rt, FILE, &mut other_told),
+        name,
+        &mut FileMachine::new(rt, name, told),
+        &mut FileMachine::new(rt, name, other_told),
+        acts,
     )
 }
 
+/// Whether the calls return and print what they must.
+fn runs(rt: &HostRuntime, script: &Script) -> bool {
+    let (name, acts, wanted) = *script;
+    let mut told: Vec<u8> = Vec::new(rt.alloc());
+    let mut other_told: Vec<u8> = Vec::new(rt.alloc());
+    do_all_anew(rt, name, &mut told, &mut other_told, acts) && told.as_slice() == wanted
+}
+
+/// At first there is no file, and nothing to sync.
+const WRITES: [(bool, Act); 6] = [
+    (false, Act::Len(Ok(0))),
+    (false, Act::Sync(Ok(()))),
+    (false, Act::Write(0, b"abcdef", Ok(()))),
+    (false, Act::Sync(Ok(()))),
+    (false, Act::Write(4, b"xyz", Ok(()))),
+    (false, Act::Tell),
+];
+
+/// Another machine finds just what the first one wrote.
+const READS: [(bool, Act); 3] = [
+    (false, Act::Len(Ok(7))),
+    (false, Act::Read(3, 4, *b"dxyz\x01\x01\x01\x01")),
+    (false, Act::Remove),
+];
+
+/// A folder in place of a file.
+const FAILS: [(bool, Act); 2] = [
+    (false, Act::Len(Err(Failed))),
+    (false, Act::Write(0, b"a", Err(Failed))),
+];
+
+/// Bytes are written behind the end of the long file, and then over its last byte.
+const WRITES_FAR: [(bool, Act); 7] = [
+    (false, Act::Make(LONG_LEN)),
+    (false, Act::Sync(Ok(()))),
+    (false, Act::Len(Ok(LONG_LEN))),
+    (false, Act::Write(LONG_LEN, b"xyz", Ok(()))),
+    (false, Act::Sync(Ok(()))),
+    (false, Act::Write(LONG_LEN - 1, b"w", Ok(()))),
+    (false, Act::Sync(Ok(()))),
+];
+
+const READS_FAR: [(bool, Act); 4] = [
+    (false, Act::Len(Ok(LONG_LEN + 3))),
+    (false, Act::Read(LONG_LEN - 1, 4, *b"wxyz\x01\x01\x01\x01")),
+    (true, Act::Read(SHORT_PLACE, 8, [0; 8])),
+    (false, Act::Remove),
+];
+
+/// Of two machines over one file, the first one that syncs or writes locks it; the other may read.
+/// Once the file is removed, nothing is written to it.
+const LOCKS: [(bool, Act); 9] = [
+    (false, Act::Sync(Ok(()))),
+    (true, Act::Len(Ok(7))),
+    (true, Act::Sync(Err(Failed))),
+    (true, Act::Write(7, b"!", Err(Failed))),
+    (false, Act::Write(7, b".", Ok(()))),
+    (true, Act::Len(Ok(8))),
+    (false, Act::Remove),
+    (false, Act::Sync(Err(Failed))),
+    (false, Act::Gone),
+];
+
+const SCRIPTS: [Script; 7] = [
+    (FILE, &WRITES, b"line\n"),
+    (FILE, &READS, b""),
+    (".", &FAILS, b""),
+    (LONG_FILE, &WRITES_FAR, b""),
+    (LONG_FILE, &READS_FAR, b""),
+    (FILE, &WRITES, b"line\n"),
+    (FILE, &LOCKS, b""),
+];
+
 #[test]
-fn lock_of_a_file(rt: HostRuntime) {
-    // Of two machines over one file, the first one that syncs or writes locks it; the other may
-    // read.
-    let mut told = Vec::new(rt.alloc());
-    assert!(rt; write_file(&rt, &mut told) == Ok(0));
-    let locking = lock_file(&rt);
-    assert!(rt; locking.sync_of_one == Ok(()));
-    assert!(rt; locking.len_of_other == Ok(7));
-    assert!(rt; locking.sync_of_other == Err(Failed));
-    assert!(rt; locking.write_of_other == Err(Failed));
-    assert!(rt; locking.write_of_one == Ok(()));
-    assert!(rt; locking.len_after_write == Ok(8));
-    assert!(rt; locking.is_removed);
-    // Once the file is removed, nothing is written to it.
-    assert!(rt; locking.sync_after_removal == Err(Failed));
-    assert!(rt; !fs::exists(&rt, FILE).unwrap_or(true));
+fn edges_of_files(rt: HostRuntime) {
+    for script in &SCRIPTS {
+        assert!(rt; runs(&rt, script));
+    }
 }

@@ -1,14 +1,11 @@
 //! Blocks that are encoded at each of their limits, and one past it. A draft can't bring most of
 //! these to `encode`, since it is refused before.
 
-ghost use Rattle.std.specs.Prelude.{◌≤◌};
-ghost use Rattle.lc_base.specs.declared.limits.TheConstants.{MAX_TEXT_BYTES};
-
 use block_codec::{
     Block, EncodeError, FIRST_VERSION, MAX_ARGS, MAX_BLOCK_BYTES, MAX_CALL_BUDGET,
     MAX_FIRST_TEXT_BYTES, MAX_SOURCE_BYTES, MAX_TXS, NO_PARENT, SECOND_VERSION, Tx, TxList, encode,
 };
-use lc_base::{Bytes, Key, KeyList, MAX_DEPS, MAX_TEXT_BYTES, Name, Seq, Text, Value};
+use lc_base::{Bytes, Key, KeyList, MAX_DEPS, MAX_TEXT_BYTES, Name, Text, Value, ValueList};
 use std::alloc::Global;
 
 /// The number of bytes of a block before its transactions.
@@ -27,242 +24,291 @@ const INT: usize = 9;
 
 const TEXT: usize = 3;
 
-fn key() -> Option<Key> {
-    Key::new(b"k").ok()
+/// The most bytes of a text in a block of the first version.
+const FIRST_TEXT: usize = MAX_FIRST_TEXT_BYTES;
+/// The numbers of bytes of a block of one Set or Call of a text, without the bytes of that.
+const SET_TEXT: usize = FRONT + SET - INT + TEXT;
+
+const CALL_TEXT: usize = FRONT + CALL + TEXT;
+
+/// The most bytes of the source of the last Deploy, if 63 others have the longest source.
+const LAST: usize = MAX_BLOCK_BYTES - FRONT - 64 * DEPLOY - 63 * MAX_SOURCE_BYTES;
+
+/// A transaction, whose keys and names have one byte. A value is a text of as many bytes, or an int.
+#[derive(Clone, Copy)]
+pub(crate) enum Made {
+    /// A value, and the number of dependency keys.
+    Set(Option<usize>, usize),
+    /// The number of arguments, each of them such a value, and the budget.
+    Call(Option<usize>, usize, u32),
+    /// The number of bytes of the source.
+    Deploy(usize),
 }
 
-fn name() -> Option<Name> {
-    Name::new(b"n").ok()
+/// As many transactions of a kind, and then as many of another one.
+type Txs = [(usize, Made); 2];
+
+/// As many bytes.
+fn bytes(alloc: Global, count: usize) -> Option<Vec<u8>> {
+    vec![in alloc; b'a'; count].ok()
 }
 
-/// A Set with `count` dependency keys.
-fn set(alloc: Global, count: usize) -> Option<Tx> {
-    let key = key()?;
-    let mut deps = KeyList::new(alloc);
-    for _ in 0..count {
-        deps.push(key).ok()?;
+fn value(alloc: Global, text: Option<usize>) -> Option<Value> {
+    let Some(count) = text else {
+        return Some(Value::Int(1));
+    };
+    match Text::new(alloc, &bytes(alloc, count)?) {
+        Ok(text) => Some(Value::Text(text)),
+        Err(_) => None,
     }
-    Some(Tx::Set {
-        sender: key,
-        key,
-        value: Value::Int(1),
-        deps,
-    })
 }
 
-/// A Deploy of a source of `count` bytes.
-fn deploy(alloc: Global, count: usize) -> Option<Tx> {
-    let sender = key()?;
-    let name = name()?;
-    let mut source = Vec::new(alloc);
+/// Adds as many arguments.
+fn add_args(alloc: Global, args: &mut ValueList, text: Option<usize>, count: usize) -> bool {
     for _ in 0..count {
-        source.push(b'#').ok()?;
+        let is_added = match value(alloc, text) {
+            Some(value) => args.push(value).is_ok(),
+            None => false,
+        };
+        if !is_added {
+            return false;
+        }
     }
-    Some(Tx::Deploy {
-        sender,
-        name,
-        source: Bytes::from_vec(source),
-    })
+    true
 }
 
-/// A Call with `count` arguments and this budget.
-pub(crate) fn call(alloc: Global, count: usize, budget: u32) -> Option<Tx> {
-    let sender = key()?;
-    let name = name()?;
-    let mut args = Seq::new(alloc);
+/// A transaction.
+fn tx_of(alloc: Global, made: Made) -> Option<Tx> {
+    let sender = Key::new(b"k").ok()?;
+    let name = Name::new(b"n").ok()?;
+    match made {
+        Made::Set(text, count) => {
+            let deps = KeyList::from_vec(vec![in alloc; sender; count].ok()?);
+            match value(alloc, text) {
+                Some(value) => Some(Tx::Set {
+                    sender,
+                    key: sender,
+                    value,
+                    deps,
+                }),
+                None => None,
+            }
+        }
+        Made::Call(text, count, budget) => {
+            let mut args = ValueList::new(alloc);
+            if add_args(alloc, &mut args, text, count) {
+                Some(Tx::Call {
+                    sender,
+                    contract: name,
+                    function: name,
+                    args,
+                    budget,
+                })
+            } else {
+                None
+            }
+        }
+        Made::Deploy(count) => Some(Tx::Deploy {
+            sender,
+            name,
+            source: Bytes::from_vec(bytes(alloc, count)?),
+        }),
+    }
+}
+
+/// Adds as many transactions of a kind.
+fn add(alloc: Global, txs: &mut TxList, count: usize, kind: Made) -> bool {
     for _ in 0..count {
-        args.push(Value::Int(1)).ok()?;
+        let is_added = match tx_of(alloc, kind) {
+            Some(tx) => txs.push(tx).is_ok(),
+            None => false,
+        };
+        if !is_added {
+            return false;
+        }
     }
-    Some(Tx::Call {
-        sender,
-        contract: name,
-        function: name,
-        args,
-        budget,
-    })
+    true
 }
 
-/// How many bytes spell the block of this version and these transactions; `Limit` if no bytes do.
-fn length_of(alloc: Global, version: u8, txs: TxList) -> Result<usize, EncodeError> {
+/// The bytes of the block of this version and these transactions; `Memory` also if they can't be
+/// made.
+pub(crate) fn encoded(alloc: Global, version: u8, made: &Txs) -> Result<Bytes, EncodeError> {
+    let [(count, kind), (more, other)] = *made;
+    let mut txs = TxList::new(alloc);
+    if !add(alloc, &mut txs, count, kind) || !add(alloc, &mut txs, more, other) {
+        return Err(EncodeError::Memory);
+    }
     let block = Block {
         version,
         number: 0,
         parent: NO_PARENT,
         txs,
     };
-    match encode(alloc, &block) {
-        Ok(bytes) => Ok(bytes.len()),
-        Err(error) => Err(error),
-    }
+    encode(alloc, &block)
 }
 
-/// Whether `wanted` bytes spell a block of this version and the one transaction, or, if `wanted` is
+/// Whether `wanted` bytes spell the block of this version and these transactions, or, if `wanted` is
 /// 0, no bytes do.
-fn has_length_in(alloc: Global, version: u8, tx: Option<Tx>, wanted: usize) -> bool {
-    let Some(tx) = tx else {
-        return false;
-    };
-    let mut txs = TxList::new(alloc);
-    match txs.push(tx) {
-        Ok(()) => is_length(length_of(alloc, version, txs), wanted),
-        Err(_) => false,
-    }
-}
-
-/// The same of a block of the first version.
-fn has_length(alloc: Global, tx: Option<Tx>, wanted: usize) -> bool {
-    has_length_in(alloc, FIRST_VERSION, tx, wanted)
-}
-
-fn is_length(length: Result<usize, EncodeError>, wanted: usize) -> bool {
-    match length {
-        Ok(length) => length == wanted,
+fn is_spelled(alloc: Global, version: u8, made: &Txs, wanted: usize) -> bool {
+    match encoded(alloc, version, made) {
+        Ok(bytes) => bytes.len() == wanted,
         Err(EncodeError::Limit) => wanted == 0,
         Err(EncodeError::Memory) => false,
     }
 }
 
-/// A text of `count` bytes.
-fn text(alloc: Global, count: usize) -> Option<Value> {
-    let mut bytes = Vec::new(alloc);
-    for _ in 0..count {
-        bytes.push(b'a').ok()?;
+/// No transactions.
+pub(crate) const NONE: (usize, Made) = (0, Made::Deploy(0));
+
+/// A block: its version, its transactions, and how many bytes spell it, 0 if none do.
+type Case = (u8, Txs, usize);
+
+/// The limits of texts.
+const TEXTS: [Case; 10] = [
+    // Texts in Sets and Calls, at the limit of the first version.
+    (
+        FIRST_VERSION,
+        [(1, Made::Set(Some(FIRST_TEXT), 0)), NONE],
+        SET_TEXT + FIRST_TEXT,
+    ),
+    (
+        FIRST_VERSION,
+        [(1, Made::Call(Some(FIRST_TEXT), 1, 0)), NONE],
+        CALL_TEXT + FIRST_TEXT,
+    ),
+    // One past it.
+    (
+        FIRST_VERSION,
+        [(1, Made::Set(Some(FIRST_TEXT + 1), 0)), NONE],
+        0,
+    ),
+    (
+        FIRST_VERSION,
+        [(1, Made::Call(Some(FIRST_TEXT + 1), 1, 0)), NONE],
+        0,
+    ),
+    // The longest texts are for the second version alone.
+    (
+        FIRST_VERSION,
+        [(1, Made::Set(Some(MAX_TEXT_BYTES), 0)), NONE],
+        0,
+    ),
+    (
+        FIRST_VERSION,
+        [(1, Made::Call(Some(MAX_TEXT_BYTES), 1, 0)), NONE],
+        0,
+    ),
+    // In the second version.
+    (
+        SECOND_VERSION,
+        [(1, Made::Set(Some(FIRST_TEXT + 1), 0)), NONE],
+        SET_TEXT + FIRST_TEXT + 1,
+    ),
+    (
+        SECOND_VERSION,
+        [(1, Made::Call(Some(FIRST_TEXT + 1), 1, 0)), NONE],
+        CALL_TEXT + FIRST_TEXT + 1,
+    ),
+    // The longest.
+    (
+        SECOND_VERSION,
+        [(1, Made::Set(Some(MAX_TEXT_BYTES), 0)), NONE],
+        SET_TEXT + MAX_TEXT_BYTES,
+    ),
+    (
+        SECOND_VERSION,
+        [(1, Made::Call(Some(MAX_TEXT_BYTES), 1, 0)), NONE],
+        CALL_TEXT + MAX_TEXT_BYTES,
+    ),
+];
+
+/// The limits of transactions.
+const TRANSACTIONS: [Case; 8] = [
+    (
+        FIRST_VERSION,
+        [(1, Made::Set(None, MAX_DEPS)), NONE],
+        FRONT + SET + MAX_DEPS * KEY,
+    ),
+    (FIRST_VERSION, [(1, Made::Set(None, MAX_DEPS + 1)), NONE], 0),
+    (
+        FIRST_VERSION,
+        [(1, Made::Deploy(MAX_SOURCE_BYTES)), NONE],
+        FRONT + DEPLOY + MAX_SOURCE_BYTES,
+    ),
+    (
+        FIRST_VERSION,
+        [(1, Made::Deploy(MAX_SOURCE_BYTES + 1)), NONE],
+        0,
+    ),
+    (
+        FIRST_VERSION,
+        [(1, Made::Call(None, MAX_ARGS, 0)), NONE],
+        FRONT + CALL + MAX_ARGS * INT,
+    ),
+    (
+        FIRST_VERSION,
+        [(1, Made::Call(None, MAX_ARGS + 1, 0)), NONE],
+        0,
+    ),
+    (
+        FIRST_VERSION,
+        [(1, Made::Call(None, 0, MAX_CALL_BUDGET)), NONE],
+        FRONT + CALL,
+    ),
+    (
+        FIRST_VERSION,
+        [(1, Made::Call(None, 0, MAX_CALL_BUDGET + 1)), NONE],
+        0,
+    ),
+];
+
+/// The most transactions of a block.
+const MOST: usize = MAX_TXS as usize;
+
+/// The limits of blocks, and their versions.
+const BLOCKS: [Case; 8] = [
+    (
+        FIRST_VERSION,
+        [(MOST, Made::Set(None, 0)), NONE],
+        FRONT + MOST * SET,
+    ),
+    (FIRST_VERSION, [(MOST + 1, Made::Set(None, 0)), NONE], 0),
+    (
+        FIRST_VERSION,
+        [
+            (63, Made::Deploy(MAX_SOURCE_BYTES)),
+            (1, Made::Deploy(LAST)),
+        ],
+        MAX_BLOCK_BYTES,
+    ),
+    (
+        FIRST_VERSION,
+        [
+            (63, Made::Deploy(MAX_SOURCE_BYTES)),
+            (1, Made::Deploy(LAST + 1)),
+        ],
+        0,
+    ),
+    // The versions.
+    (FIRST_VERSION, [NONE, NONE], FRONT),
+    (SECOND_VERSION, [NONE, NONE], FRONT),
+    (FIRST_VERSION - 1, [NONE, NONE], 0),
+    (SECOND_VERSION + 1, [NONE, NONE], 0),
+];
+
+/// Whether each of these blocks is spelled by as many bytes.
+fn are_spelled(alloc: Global, cases: &[Case]) -> bool {
+    for (version, made, wanted) in cases {
+        if !is_spelled(alloc, *version, made, *wanted) {
+            return false;
+        }
     }
-    Some(Value::Text(Text::new(alloc, &bytes).ok()?))
-}
-
-/// A Set of a text of `count` bytes.
-fn set_text(alloc: Global, count: usize) -> Option<Tx> {
-    let key = key()?;
-    Some(Tx::Set {
-        sender: key,
-        key,
-        value: text(alloc, count)?,
-        deps: KeyList::new(alloc),
-    })
-}
-
-/// A Call with one argument, a text of `count` bytes.
-fn call_text(alloc: Global, count: usize) -> Option<Tx> {
-    let sender = key()?;
-    let name = name()?;
-    let text = text(alloc, count)?;
-    let mut args = Seq::new(alloc);
-    args.push(text).ok()?;
-    Some(Tx::Call {
-        sender,
-        contract: name,
-        function: name,
-        args,
-        budget: 0,
-    })
-}
-
-/// Whether blocks of this version may have texts of `count` bytes, in Sets and in Calls, and are
-/// spelled then by as many bytes as they should.
-fn takes_texts(alloc: Global, version: u8, count: usize) -> bool
-    requires { count ≤ MAX_TEXT_BYTES }
-{
-    let set = SET - INT + TEXT + count;
-    let call = CALL + TEXT + count;
-    has_length_in(alloc, version, set_text(alloc, count), FRONT + set)
-        && has_length_in(alloc, version, call_text(alloc, count), FRONT + call)
-}
-
-/// Whether blocks of this version may have no texts of `count` bytes, neither in Sets nor in Calls.
-fn refuses_texts(alloc: Global, version: u8, count: usize) -> bool {
-    has_length_in(alloc, version, set_text(alloc, count), 0)
-        && has_length_in(alloc, version, call_text(alloc, count), 0)
-}
-
-#[test]
-fn limits_of_texts(rt: HostRuntime) {
-    let alloc = rt.alloc();
-    assert!(rt; takes_texts(alloc, FIRST_VERSION, MAX_FIRST_TEXT_BYTES));
-    assert!(rt; refuses_texts(alloc, FIRST_VERSION, MAX_FIRST_TEXT_BYTES + 1));
-    assert!(rt; refuses_texts(alloc, FIRST_VERSION, MAX_TEXT_BYTES));
-    assert!(rt; takes_texts(alloc, SECOND_VERSION, MAX_FIRST_TEXT_BYTES + 1));
-    assert!(rt; takes_texts(alloc, SECOND_VERSION, MAX_TEXT_BYTES));
-}
-
-/// Adds a transaction, if there is one.
-pub(crate) fn add(txs: &mut TxList, tx: Option<Tx>) -> Option<()> {
-    txs.push(tx?).ok()
-}
-
-/// A list of `count` Sets.
-fn sets(alloc: Global, count: u16) -> Option<TxList> {
-    let mut txs = TxList::new(alloc);
-    for _ in 0..count {
-        add(&mut txs, set(alloc, 0))?;
-    }
-    Some(txs)
-}
-
-/// As many Deploys of the longest source as there is room for in a block, and one of a source of
-/// `last` bytes.
-fn deploys(alloc: Global, last: usize) -> Option<TxList> {
-    let mut txs = TxList::new(alloc);
-    for _ in 0..63 {
-        add(&mut txs, deploy(alloc, MAX_SOURCE_BYTES))?;
-    }
-    add(&mut txs, deploy(alloc, last))?;
-    Some(txs)
-}
-
-fn have_length(alloc: Global, txs: Option<TxList>, wanted: usize) -> bool {
-    match txs {
-        Some(txs) => is_length(length_of(alloc, FIRST_VERSION, txs), wanted),
-        None => false,
-    }
-}
-
-#[test]
-fn limits_of_transactions(rt: HostRuntime) {
-    let alloc = rt.alloc();
-    assert!(rt; has_length(alloc, set(alloc, MAX_DEPS), FRONT + SET + MAX_DEPS * KEY));
-    assert!(rt; has_length(alloc, set(alloc, MAX_DEPS + 1), 0));
-    assert!(rt;
-        has_length(
-            alloc,
-            deploy(alloc, MAX_SOURCE_BYTES),
-            FRONT + DEPLOY + MAX_SOURCE_BYTES
-        )
-    );
-    assert!(rt; has_length(alloc, deploy(alloc, MAX_SOURCE_BYTES + 1), 0));
-    assert!(rt;
-        has_length(
-            alloc,
-            call(alloc, MAX_ARGS, 0),
-            FRONT + CALL + MAX_ARGS * INT
-        )
-    );
-    assert!(rt; has_length(alloc, call(alloc, MAX_ARGS + 1, 0), 0));
-    assert!(rt; has_length(alloc, call(alloc, 0, MAX_CALL_BUDGET), FRONT + CALL));
-    assert!(rt; has_length(alloc, call(alloc, 0, MAX_CALL_BUDGET + 1), 0));
+    true
 }
 
 #[test]
 fn limits_of_blocks(rt: HostRuntime) {
-    let alloc = rt.alloc();
-    assert!(rt; have_length(alloc, sets(alloc, MAX_TXS), FRONT + MAX_TXS as usize * SET));
-    assert!(rt; have_length(alloc, sets(alloc, MAX_TXS + 1), 0));
-    let last = MAX_BLOCK_BYTES - FRONT - 64 * DEPLOY - 63 * MAX_SOURCE_BYTES;
-    assert!(rt; have_length(alloc, deploys(alloc, last), MAX_BLOCK_BYTES));
-    assert!(rt; have_length(alloc, deploys(alloc, last + 1), 0));
-}
-
-/// Whether `wanted` bytes spell the block of this version without transactions, or, if `wanted` is
-/// 0, no bytes do.
-fn has_version(alloc: Global, version: u8, wanted: usize) -> bool {
-    is_length(length_of(alloc, version, TxList::new(alloc)), wanted)
-}
-
-#[test]
-fn limits_of_versions(rt: HostRuntime) {
-    let alloc = rt.alloc();
-    assert!(rt; has_version(alloc, FIRST_VERSION, FRONT));
-    assert!(rt; has_version(alloc, SECOND_VERSION, FRONT));
-    assert!(rt; has_version(alloc, FIRST_VERSION - 1, 0));
-    assert!(rt; has_version(alloc, SECOND_VERSION + 1, 0));
+    assert!(rt; are_spelled(rt.alloc(), &TEXTS), "texts");
+    assert!(rt; are_spelled(rt.alloc(), &TRANSACTIONS), "transactions");
+    assert!(rt; are_spelled(rt.alloc(), &BLOCKS), "blocks");
 }

@@ -85,8 +85,9 @@ fn has_links(alloc: Global, block: u32, wanted: &[u32]) -> bool {
 
 #[test]
 fn links_of_versions(rt: HostRuntime) {
-    assert!(rt; has_links(rt.alloc(), 2, &[]));
     // The version in block 9 has height 3, and that in block 10 height 1.
-    assert!(rt; has_links(rt.alloc(), 9, &[2, 2, 2, 2]));
-    assert!(rt; has_links(rt.alloc(), 10, &[9, 9]));
+    let links: [(u32, &[u32]); 3] = [(2, &[]), (9, &[2, 2, 2, 2]), (10, &[9, 9])];
+    for (block, wanted) in links {
+        assert!(rt; has_links(rt.alloc(), block, wanted));
+    }
 }

@@ -2,14 +2,13 @@
 //! is not yet: no chain of so many blocks or rows can be made here. And the placement of a block of
 //! either version in a chain that is marked, and in one that isn't.
 
-ghost use Rattle.std.specs.Prelude.{◌≡◌, ◌≤◌, true, IfSome};
-ghost use Rattle.block_codec.specs.Spelling.{IsBlock, is_version};
+ghost use Rattle.std.specs.Prelude.{◌≡◌, ◌≤◌, true};
+ghost use Rattle.block_codec.specs.Spelling.{is_version};
 
-use crate::tests::encoded::{add, call};
+use crate::tests::encoded::{Made, NONE, encoded};
 use block_codec::{
     Block, FIRST_VERSION, MAX_BLOCK_BUDGET, MAX_BLOCKS, MAX_CALL_BUDGET, MAX_MARKED_BLOCKS,
-    MAX_ROWS_BEFORE_BLOCK, Misplaced, NO_PARENT, Placement, SECOND_VERSION, TxList, decode, encode,
-    place,
+    MAX_ROWS_BEFORE_BLOCK, Misplaced, NO_PARENT, Placement, SECOND_VERSION, TxList, decode, place,
 };
 use lc_base::Digest;
 use std::alloc::Global;
@@ -48,6 +47,12 @@ fn place_marked(alloc: Global, number: u32, held: u32, rows: u64) -> Placement
     requires { held ≤ number }
 {
     place_after(alloc, SECOND_VERSION, number, held, rows, true)
+}
+
+#[test]
+fn limits_of_chains(rt: HostRuntime) {
+    assert!(rt; MAX_BLOCKS == 1_048_576 && MAX_MARKED_BLOCKS == 4_294_967_295);
+    assert!(rt; MAX_ROWS_BEFORE_BLOCK == 4_293_918_718);
 }
 
 #[test]
@@ -110,49 +115,30 @@ fn places_by_versions(rt: HostRuntime) {
     assert!(rt; place_version(alloc, SECOND_VERSION, Digest([1; 32]), false) == parent);
 }
 
-/// The block that bytes spell; `None` if they spell none.
-fn decoded(alloc: Global, bytes: &[u8]) -> Option<Block>
-    ensures { IfSome result IsBlock }
-{
-    decode(alloc, bytes).ok()
-}
+/// The number of calls of the greatest budget, one more than a block may have.
+const COSTLY: usize = (MAX_BLOCK_BUDGET / MAX_CALL_BUDGET as u64 + 1) as usize;
 
-/// A block of this version with calls of the greatest budget, one more than a block may have, as it
-/// is decoded from its encoding.
-fn costly_block(alloc: Global, version: u8) -> Option<Block>
-    ensures { IfSome result IsBlock }
-{
-    let mut txs = TxList::new(alloc);
-    for _ in 0..=MAX_BLOCK_BUDGET / u64::from(MAX_CALL_BUDGET) {
-        add(&mut txs, call(alloc, 0, MAX_CALL_BUDGET))?;
-    }
-    let block = Block {
-        version,
-        number: 0,
-        parent: NO_PARENT,
-        txs,
+/// The placement of a block of this version with these calls, as it is decoded from its encoding, in
+/// a chain that has no block yet and isn't marked.
+fn place_costly(alloc: Global, version: u8) -> Option<Placement> {
+    let calls = [(COSTLY, Made::Call(None, 0, MAX_CALL_BUDGET)), NONE];
+    let Ok(bytes) = encoded(alloc, version, &calls) else {
+        return None;
     };
-    match encode(alloc, &block) {
-        Ok(bytes) => decoded(alloc, bytes.as_bytes()),
+    match decode(alloc, bytes.as_bytes()) {
+        Ok(block) => Some(place(0, 0, None, NO_PARENT, &block, NO_PARENT, false)),
         Err(_) => None,
     }
 }
 
-/// The placement of such a block in a chain that has no block yet and isn't marked.
-fn place_costly(alloc: Global, version: u8) -> Option<Placement> {
-    let block = costly_block(alloc, version)?;
-    Some(place(0, 0, None, NO_PARENT, &block, NO_PARENT, false))
-}
-
 #[test]
 fn places_a_costly_block(rt: HostRuntime) {
-    let alloc = rt.alloc();
     let first = Placement::Not(Misplaced::Version {
         want: FIRST_VERSION,
     });
     // The version of a block is tested before its budget.
-    assert!(rt; place_costly(alloc, SECOND_VERSION) == Some(first));
+    assert!(rt; place_costly(rt.alloc(), SECOND_VERSION) == Some(first));
     let sum = MAX_BLOCK_BUDGET + u64::from(MAX_CALL_BUDGET);
     let budget = Placement::Not(Misplaced::Budget { sum });
-    assert!(rt; place_costly(alloc, FIRST_VERSION) == Some(budget));
+    assert!(rt; place_costly(rt.alloc(), FIRST_VERSION) == Some(budget));
 }

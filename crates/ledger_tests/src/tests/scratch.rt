@@ -25,40 +25,55 @@ fn put_two<S: Scratch>(scratch: &mut S, got: &mut [u8; 3]) -> Result<(u64, u64),
     Ok((first, second))
 }
 
-/// Puts three texts, and gets the last two back, the third one first.
+/// Puts a text, a body and a text, and gets the last two back, the last one first or not.
 fn put_three<S: Scratch>(
     scratch: &mut S,
-    second: &mut [u8; 2],
-    third: &mut [u8; 4],
-) -> Result<(), Failed> {
+    body: &[u8],
+    last: &[u8],
+    got_body: &mut [u8],
+    got_last: &mut [u8],
+    is_last_first: bool,
+) -> Result<(), Failed>
+    requires alike { length got_body.old ≡ length body.now }
+    requires last_alike { length got_last.old ≡ length last.now }
+{
     let _first = scratch.put(b"abc")?;
-    let second_place = scratch.put(b"de")?;
-    let third_place = scratch.put(b"fghi")?;
-    scratch.get(third_place, third)?;
-    scratch.get(second_place, second)
+    let place = scratch.put(body)?;
+    let last_place = scratch.put(last)?;
+    if is_last_first {
+        scratch.get(last_place, got_last)?;
+        scratch.get(place, got_body)
+    } else {
+        scratch.get(place, got_body)?;
+        scratch.get(last_place, got_last)
+    }
 }
 
 /// Does so on a device over a file, which is closed then.
-fn get_later_ones(
+fn put_on_file(
     rt: &HostRuntime,
-    second: &mut [u8; 2],
-    third: &mut [u8; 4],
-) -> Result<(), Failed> {
+    body: &[u8],
+    last: &[u8],
+    got_body: &mut [u8],
+    got_last: &mut [u8],
+    is_last_first: bool,
+) -> bool
+    requires alike { length got_body.old ≡ length body.now }
+    requires last_alike { length got_last.old ≡ length last.now }
+{
     let Ok(mut scratch) = FileScratch::new(rt.alloc(), rt, ".") else {
-        return Err(Failed);
+        return false;
     };
-    let done = put_three(&mut scratch, second, third);
+    let done = put_three(&mut scratch, body, last, got_body, got_last, is_last_first);
     let closed = scratch.close();
-    done?;
-    closed
+    done.is_ok() && closed.is_ok()
 }
 
 #[test]
 fn scratch_file_at_later_places(rt: HostRuntime) {
     let (mut second, mut third) = ([0; 2], [0; 4]);
-    assert!(rt; get_later_ones(&rt, &mut second, &mut third) == Ok(()));
-    assert!(rt; second == *b"de");
-    assert!(rt; third == *b"fghi");
+    assert!(rt; put_on_file(&rt, b"de", b"fghi", &mut second, &mut third, true));
+    assert!(rt; second == *b"de" && third == *b"fghi");
 }
 
 /// As many bytes, each of them this one.
@@ -68,43 +83,27 @@ fn bytes_of(alloc: Global, byte: u8, count: usize) -> Option<Vec<u8>>
     vec![in alloc; byte; count].ok()
 }
 
-/// Puts a text, a body and a text, and gets the body and the last text back.
-fn put_between<S: Scratch>(
-    scratch: &mut S,
-    body: &[u8],
-    got_body: &mut [u8],
-    got_last: &mut [u8; 2],
-) -> Result<(), Failed>
-    requires alike { length got_body.old ≡ length body.now }
-{
-    let _first = scratch.put(b"abc")?;
-    let place = scratch.put(body)?;
-    let last = scratch.put(b"de")?;
-    scratch.get(place, got_body)?;
-    scratch.get(last, got_last)
-}
-
-/// Does so on a device over a file with a body of `count` bytes. Whether both are what was put.
-fn are_got_back(rt: &HostRuntime, count: usize) -> Option<bool> {
-    let body = bytes_of(rt.alloc(), 7, count)?;
-    let mut got_body = bytes_of(rt.alloc(), 0, count)?;
-    let mut got_last = [0; 2];
-    let mut scratch = FileScratch::new(rt.alloc(), rt, ".").ok()?;
-    let done = put_between(&mut scratch, &body, &mut got_body, &mut got_last);
-    let closed = scratch.close();
-    done.ok()?;
-    closed.ok()?;
-    Some(got_body.as_slice() == body.as_slice() && got_last == *b"de")
+/// Whether a body of `count` bytes and a text after it are got back from a device over a file.
+fn are_got_back(rt: &HostRuntime, count: usize) -> bool {
+    let Some(body) = bytes_of(rt.alloc(), 7, count) else {
+        return false;
+    };
+    let Some(mut got) = bytes_of(rt.alloc(), 0, count) else {
+        return false;
+    };
+    let mut last = [0; 2];
+    let is_put = put_on_file(rt, &body, b"de", &mut got, &mut last, false);
+    is_put && got.as_slice() == body.as_slice() && last == *b"de"
 }
 
 #[test]
 fn scratch_file_of_gathered_bytes(rt: HostRuntime) {
     // The body is gathered behind the first text; is gathered once that is written; or is written
     // by itself.
-    assert!(rt; are_got_back(&rt, GATHERED_BYTES - 3) == Some(true));
-    assert!(rt; are_got_back(&rt, GATHERED_BYTES - 2) == Some(true));
-    assert!(rt; are_got_back(&rt, GATHERED_BYTES) == Some(true));
-    assert!(rt; are_got_back(&rt, GATHERED_BYTES + 1) == Some(true));
+    let most = GATHERED_BYTES;
+    for count in [most - 3, most - 2, most, most + 1] {
+        assert!(rt; are_got_back(&rt, count));
+    }
 }
 
 /// Puts a text on each of two devices, and then gets both back.
@@ -128,14 +127,13 @@ fn scratch_in_memory(rt: HostRuntime) {
         return;
     };
     let mut got = [0; 3];
-    assert!(rt; put_two(&mut scratch, &mut got) == Ok((0, 3)));
-    assert!(rt; got == *b"abc");
-    assert!(rt; scratch.gets() == 1);
+    let is_put = put_two(&mut scratch, &mut got) == Ok((0, 3));
+    let gets = scratch.gets();
     // Two more bytes do not fit the room, and the call takes no number; the next one fails by its
     // number.
-    assert!(rt; scratch.put(b"fg") == Err(Failed));
-    assert!(rt; scratch.put(b"f") == Err(Failed));
-    assert!(rt; scratch.gets() == 1);
+    let failing = [scratch.put(b"fg"), scratch.put(b"f")];
+    assert!(rt; is_put && got == *b"abc" && gets == 1);
+    assert!(rt; failing == [Err(Failed), Err(Failed)] && scratch.gets() == 1);
 }
 
 /// Whether there is a file of this name, or it can't be looked for.
@@ -192,8 +190,7 @@ fn scratch_files_without_names(rt: HostRuntime) {
     // Each device has a file of its own. While they are open, none of them has a name.
     let (mut got_one, mut got_other) = ([0; 3], [0; 3]);
     assert!(rt; put_on_files(&rt, &mut got_one, &mut got_other) == Ok(false));
-    assert!(rt; got_one == *b"abc");
-    assert!(rt; got_other == *b"xyz");
+    assert!(rt; got_one == *b"abc" && got_other == *b"xyz");
     assert!(rt; holds(&rt, FILE, KEPT));
     assert!(rt; fs::remove_file(&rt, FILE).is_ok());
 }
@@ -236,8 +233,7 @@ fn get_from_short(rt: &HostRuntime, len: u64, got: &mut [u8; 2]) -> Result<(), F
 fn scratch_file_that_was_cut(rt: HostRuntime) {
     let mut got = [0; 2];
     assert!(rt; get_from_short(&rt, 4, &mut got) == Err(Failed));
-    assert!(rt; get_from_short(&rt, 5, &mut got) == Ok(()));
-    assert!(rt; got == *b"de");
+    assert!(rt; get_from_short(&rt, 5, &mut got) == Ok(()) && got == *b"de");
     assert!(rt; !is_there(&rt, SHORT_FILE));
 }
 

@@ -12,26 +12,37 @@ fn reads<E: Display + Drop>(alloc: Global, error: E, text: &str) -> bool {
     }
 }
 
+const KEY_ERRORS: [(KeyError, &str); 3] = [
+    (KeyError::Empty, "empty"),
+    (KeyError::Long, "too long"),
+    (KeyError::Byte(4), "bad byte at 4"),
+];
+
+const TEXT_ERRORS: [(TextError, &str); 3] = [
+    (TextError::Long, "too long"),
+    (TextError::Byte(1023), "bad byte at 1023"),
+    (TextError::Memory, "no memory"),
+];
+
 #[test]
 fn texts_of_errors(rt: HostRuntime) {
-    assert!(rt; reads(rt.alloc(), KeyError::Empty, "empty"));
-    assert!(rt; reads(rt.alloc(), KeyError::Long, "too long"));
-    assert!(rt; reads(rt.alloc(), KeyError::Byte(4), "bad byte at 4"));
-    assert!(rt; reads(rt.alloc(), TextError::Long, "too long"));
-    assert!(rt; reads(rt.alloc(), TextError::Byte(1023), "bad byte at 1023"));
-    assert!(rt; reads(rt.alloc(), TextError::Memory, "no memory"));
+    for (error, text) in KEY_ERRORS {
+        assert!(rt; reads(rt.alloc(), error, text));
+    }
+    for (error, text) in TEXT_ERRORS {
+        assert!(rt; reads(rt.alloc(), error, text));
+    }
 }
 
 /// How many bytes the text has that `count` bytes are, or why they are none.
 fn text_of(alloc: Global, count: usize) -> Result<usize, TextError> {
-    let mut bytes = Vec::new(alloc);
-    for _ in 0..count {
-        if bytes.push(b'a').is_err() {
-            return Err(TextError::Memory);
-        }
+    match vec![in alloc; b'a'; count] {
+        Ok(bytes) => match Text::new(alloc, &bytes) {
+            Ok(text) => Ok(text.as_bytes().len()),
+            Err(error) => Err(error),
+        },
+        Err(_) => Err(TextError::Memory),
     }
-    let text = Text::new(alloc, &bytes)?;
-    Ok(text.as_bytes().len())
 }
 
 #[test]
