@@ -1,13 +1,15 @@
 """Proofs over a long chain by docs/proofs.md, by the root at its last block, from what is kept of its blocks.
 
 tools/cases/proof_cases.py makes proofs by going over all rows, which takes too long for many over a long chain;
-tools/measure/measure-light holds the two against each other over a short one.
+tools/measure/measure-light holds the two against each other over a short one, and tools/checks/size_runs.py those of a
+range.
 """
 import bisect
 
 from cases.block_files import number, string
 from cases.growing_roots import Ledger, first_of
 from cases.proof_cases import KINDS, MAGIC
+from cases.range_cases import MAGIC as RANGE_MAGIC
 
 
 class ProvingLedger(Ledger):
@@ -46,13 +48,31 @@ class ProvingLedger(Ledger):
             blocks.append(later[-1] if later else links[0])
         return blocks
 
+    def rooted(self, key, block_digest):
+        """From the digest of the last block to the audit hashes: the leaf that covers a key, in the tree."""
+        covering = key if key in self.keys else self.in_order[bisect.bisect(self.in_order, key) - 1]
+        index = self.keys[covering].index
+        audit = self.audit(index)
+        leaf = number(len(self.tree.leaves), 4) + number(index, 4) + self.leaf(covering)
+        return block_digest + leaf + number(len(audit), 1) + b"".join(audit)
+
     def proof(self, kind, key, at, head, block_digest):
         """The proof of a `hist` or a `back` by the root at the last block, which has this number and this digest."""
-        covering = key if key in self.keys else self.in_order[bisect.bisect(self.in_order, key) - 1]
-        index, blocks = self.keys[covering].index, self.path(key, at)
-        audit = self.audit(index)
-        proof = MAGIC + number(KINDS.index(kind), 1) + string(key) + number(at, 4) + number(head, 4) + block_digest
-        proof += number(len(self.tree.leaves), 4) + number(index, 4) + self.leaf(covering)
-        proof += number(len(audit), 1) + b"".join(audit) + number(len(blocks), 1)
+        blocks = self.path(key, at)
+        proof = MAGIC + number(KINDS.index(kind), 1) + string(key) + number(at, 4) + number(head, 4)
+        proof += self.rooted(key, block_digest) + number(len(blocks), 1)
         proof += b"".join(self.texts[key, block][0] for block in blocks)
         return proof + (self.texts[key, blocks[-1]][1] if blocks and blocks[-1] <= at else b"")
+
+    def proof_of_uses(self, key, at, head, block_digest, uses):
+        """The proof of a `fwd` about the newest version of a key that has one; its uses are given, each a key and a
+        block."""
+        proof = self.proof("fwd", key, at, head, block_digest) + number(len(uses), 4)
+        return proof + b"".join(string(user) + number(block, 4) for user, block in uses)
+
+    def whole_range_proof(self, key, head, block_digest):
+        """The proof of all versions of a key, which has one in each block up to the last one."""
+        texts = [self.texts[key, block] for block in range(head, -1, -1)]
+        proof = RANGE_MAGIC + string(key) + number(0, 4) + number(head, 4) + number(head, 4)
+        proof += self.rooted(key, block_digest) + number(len(texts), 4)
+        return proof + b"".join(header for header, *_ in texts) + b"".join(body for _, body, _ in texts)

@@ -338,6 +338,11 @@ def named_trace_changes():
     yield put(proof, item_at + 10, 1), "rejected trace order 1"
     yield put(proof, item_at + 12, 1), "rejected trace header 1"
     yield put(proof, size - 2, 4), "rejected trace body 1"
+    # Of what is wrong at once the place of an item comes first, then its header, then its body, then a further item.
+    yield put(put(proof, item_at + 6, ord("c")), item_at + 12, 1), "rejected trace order 1"
+    yield put(put(proof, item_at + 6, ord("c")), size - 2, 4), "rejected trace order 1"
+    yield put(put(proof, item_at + 12, 1), size - 2, 4), "rejected trace header 1"
+    yield spelled(start, [put(item, ITEM_BYTES - 2, 4), item]), "rejected trace body 1"
     yield put(proof, item_at + 85, 33), f"rejected malformed {item_at + 85}"
     yield put(proof, size - 1, 1), f"rejected malformed {size}"
 

@@ -11,7 +11,7 @@ from cases.block_files import (
     SECOND_VERSION, TEXT_TOO_LONG, TOO_MANY, WRONG_KIND, Block, Chain, block_digest, block_file, block_frame, calls,
     deploys, sets,
 )
-from cases.log_cases import LONGEST_TEXT, frames_of
+from cases.log_cases import BAD_INPUT, LONGEST_TEXT, LogCase, frames_of, log_of
 from places import TOP
 
 
@@ -457,3 +457,35 @@ TEXTS = [
 ]
 PLACED = [("hist raw/a 0", answer, b"".join(frames)) for frames, answer in FILES]
 PLACED += [("hist raw/a 0", answer, file) for file, answer in TEXTS]
+
+# ---- over a log, and of sources
+
+
+# The log of the first chain, whose mark stands before all of its blocks.
+DROPPED_LOG = log_of(b"", DROPS[0].file())
+OVER_LOG = {
+    "trace c/a 0": "none\n",
+    "trace c/a 1": "block 1 ancestors 0\n",
+    # The version that is gone was made from the one before it.
+    "trace c/a 2": "block 2 ancestors 1\nc/a 1\n",
+    "trace c/a 3": "block 2 ancestors 1\nc/a 1\n",
+    "fwd c/a 1": "block 1 uses 1\nc/a 2\n",
+    "range c/a 0 1": "versions 1\nblock 1 tx 0 int 1\n",
+    "range c/a 0 3": "versions 2\nblock 1 tx 0 int 1\nblock 2 tx 0 gone\n",
+    "range c/a 2 3": "versions 1\nblock 2 tx 0 gone\n",
+}
+# Faults of a `drop`: its key comes before what it is derived from.
+DROP_FAULTS = {
+    "fn f() { drop 1 from x; }": "badinput check 14 kind\n",
+    "fn f() { drop x from 1; }": "badinput check 14 unknown\n",
+    'fn f() { drop "c/a" from 1, x; }': "badinput check 25 kind\n",
+    'fn f() { drop "c/a" from x, 1; }': "badinput check 25 unknown\n",
+}
+
+
+def further_cases():
+    """Questions over that log, and sources with more than one fault."""
+    for words, told in OVER_LOG.items():
+        yield LogCase(words, DROPPED_LOG, told).case()
+    for source, told in DROP_FAULTS.items():
+        yield LogCase("fmt 2", b"", told, BAD_INPUT, file=source.encode()).case()

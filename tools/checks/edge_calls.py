@@ -386,16 +386,24 @@ def limit_of_a_marked_file(checks, watched):
 
 
 def no_memory(checks, watched):
-    """Each allocation of a question fails in turn: nothing is told. Where it is one for the words, which
-    come first, no file is touched."""
-    number, ran = 0, watched.run(QUESTION, log=RECALL_LOG, NO_MEMORY=0)
-    checks.same("calls without memory for the words", ran.calls, [])
-    while (ran.told, ran.status, ran.log) == ("", MEMORY, RECALL_LOG):
-        number += 1
-        ran = watched.run(QUESTION, log=RECALL_LOG, NO_MEMORY=number)
-    name = f"{QUESTION} where allocation {number} fails, or comes no more"
-    checks.same(name, (ran.told, ran.status, ran.log), (USED, DONE, RECALL_LOG))
-    checks.holds("allocations were made", number > 0)
+    """Each allocation of a question, and of an upgrade, fails in turn. Where that ends the run nothing is told, and the
+    log stays as it was, so no memory is wanted behind the mark; else all is as ever. Where it is one for the words,
+    which come first, no file is touched."""
+    for words, log, told, after in [
+        (QUESTION, RECALL_LOG, USED, RECALL_LOG),
+        ("upgrade", SET_LOG, upgraded(1), log_of(SET_FILE, b"")),
+        ("upgrade", MARKED_LOG, ALREADY, MARKED_LOG),
+    ]:
+        good, ended = watched.run(words, log=log), 0
+        for number in range(good.requests):
+            ran = watched.run(words, log=log, NO_MEMORY=number)
+            ended += ran.status == MEMORY
+            wanted = ("", MEMORY, log) if ran.status == MEMORY else (told, DONE, after)
+            name = f"{words} over {len(log)} bytes where allocation {number} fails"
+            checks.same(name, (ran.told, ran.status, ran.log), wanted)
+            if number == 0:
+                checks.same("calls without memory for the words", ran.calls, [])
+        checks.holds(f"allocations end {words} over {len(log)} bytes", ended > 0)
 
 
 def no_random_bytes(checks, watched):

@@ -6,6 +6,7 @@ from checks.edge_calls import failing_calls, limit_of_a_file, log_made_meanwhile
 from checks.edge_calls import order_of_calls, order_of_long_runs, pipe_for_log, rest_of_input
 from checks.imported_calls import imported_calls
 from checks.lock_checks import changes_at_each_call, changes_between_frames, lock_of_another, lock_of_a_run
+from checks.mount_checks import log_mounted_for_reading, log_on_another_device
 from checks.scratch_checks import bodies_read_back, folder_of_the_scratch_file, limit_of_the_scratch_file
 from checks.scratch_checks import names_that_are_taken, no_scratch_file, nothing_is_left, scratch_calls
 from checks.scratch_checks import versions_read_back
@@ -13,8 +14,8 @@ from checks.scratch_checks import versions_read_back
 # Those of the log and the streams, and those of the scratch file; of each the short ones come first.
 LOG_PARTS = [
     imported_calls, order_of_calls, order_of_long_runs, lock_of_another, lock_of_a_run, changes_between_frames,
-    pairs_in_gate, log_made_meanwhile, rest_of_input, pipe_for_log, limit_of_a_file, no_memory, no_random_bytes,
-    failing_calls, changes_at_each_call,
+    pairs_in_gate, log_made_meanwhile, log_mounted_for_reading, log_on_another_device, rest_of_input, pipe_for_log,
+    limit_of_a_file, no_memory, no_random_bytes, failing_calls, changes_at_each_call,
 ]
 SCRATCH_PARTS = [
     no_scratch_file, bodies_read_back, versions_read_back, limit_of_the_scratch_file, folder_of_the_scratch_file,

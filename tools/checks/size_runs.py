@@ -7,20 +7,23 @@ readers and writers of this folder, never by the program.
 import itertools
 import json
 
-from cases.block_files import FIRST_VERSION, NO_CONTRACT, OK, SECOND_VERSION, block_digest, block_file
+from cases.block_files import BAD_SOURCE, FIRST_VERSION, NO_CONTRACT, OK, SECOND_VERSION, block_digest, block_file
 from cases.block_files import calls, deploys, number, sets, string
+from cases.follow_model import MAX_AHEAD
 from cases.generated_chain import Generated, spelled
 from cases.generated_loads import growing_links, links, load_line
+from cases.growing_proofs import ProvingLedger
 from cases.growing_roots import growing_roots
 from cases.light_cases import MAX_FRAME_BYTES, accepted, frame, light_file
 from cases.log_cases import BEYOND, DONE, REFUSED, REJECTED, frames_of, log_of, upgraded
-from cases.proof_cases import KINDS
+from cases.proof_cases import KINDS, proof_of
 from cases.proof_cases import MAGIC as PROOF_MAGIC
 from cases.range_cases import body_of, header_of, range_of, range_proof_of, way
 from cases.range_cases import spelled as range_proof
 from cases.root_cases import History, Row, block_digests, digest_of, roots, uses_digest
 from cases.trace_cases import trace_of, trace_proof_of
-from cases.verifier import root_of, text_of
+from cases.verifier import root_of, text_of, told_of
+from checks.program_cases import followed
 from checks.program_runs import Case
 
 BAD_INPUT = 11
@@ -51,11 +54,13 @@ class Chain:
         self.file, self.rows = file, rows
         self.frames = frames_of(file)
         self.log = log_of(file)
-        self.roots = list(growing_roots(self.frames, rows))
+        self.ledger = ProvingLedger()
+        self.roots = list(growing_roots(self.frames, rows, self.ledger))
         told = [f"{line} root {root}\n" for line, root in zip(plain_lines, self.roots)]
         self.lines = "".join(told)
         self.known = "".join(f"known {at}\n" for at in range(len(self.frames)))
         self.head = len(self.frames) - 1
+        self.digest = block_digests(self.frames)[-1]
 
     def append_runs(self):
         yield run(b"append", self.file, self.lines, after=self.log)
@@ -112,16 +117,16 @@ def fwd_answer(rows, row):
 ANSWERS = {"hist": hist_answer, "back": back_answer, "fwd": fwd_answer}
 
 
-def chain_of_sets(blocks):
+def chain_of_sets(blocks, version=FIRST_VERSION):
     """A chain of blocks of Sets that all write their rows, each a key, a value and dependencies: a key
-    and the block of its newest version."""
+    and the block of its newest version. All blocks have one version."""
     rows, files, lines = [], [], []
     for at, block in enumerate(blocks):
         rows += [Row(key, at, tx, value, deps) for tx, (key, value, deps) in enumerate(block)]
         files.append([sets(key, value, [dep for dep, _ in deps]) for key, value, deps in block])
         statuses = ",".join(["0"] * len(block)) or "-"
         lines.append(f"block {at} rows {len(block)} status {statuses}")
-    return Chain(block_file(files), rows, lines)
+    return Chain(block_file(files, itertools.repeat(version)), rows, lines)
 
 
 # ---- many blocks
@@ -198,6 +203,7 @@ def full_runs():
     yield run(b"append", one_more, "refused frame 0 full\n", REFUSED, log=log)
     yield run(b"follow", one_more, f"dropped 0 full\nfollow blocks {MAX_BLOCKS} waiting 0\n", log=log)
     yield run(b"upgrade", None, upgraded(MAX_BLOCKS), log=log, after=log_of(whole, b""))
+    yield run(b"range raw/a 0 %d" % last, None, "versions 0\n", log=log)
 
 
 # ---- great blocks
@@ -216,6 +222,23 @@ def txs_runs():
     yield run(b"pack", json.dumps([draft]).encode(), chain.file)
     draft.append(draft[0])
     yield run(b"pack", json.dumps([[], draft]).encode(), "badinput block 1\n", BAD_INPUT)
+    yield from second_txs_runs(most)
+
+
+def second_txs_runs(most):
+    """The same blocks of the second version, for which the log is marked first."""
+    chain = chain_of_sets([most], SECOND_VERSION)
+    marked, after = log_of(b"", b""), log_of(b"", chain.file)
+    yield run(b"append", chain.file, chain.lines, log=marked, after=after)
+    yield run(b"append", chain.file, chain.known, log=after)
+    yield run(b"follow", chain.file, chain.lines + followed(1, 0), log=marked, after=after)
+    yield run(b"hist raw/%d 0" % (MAX_TXS - 1), None, f"block 0 tx {MAX_TXS - 1} int {MAX_TXS - 1}\n", log=after)
+    yield run(b"scan fwd raw/0 0", chain.file, "block 0 uses 0\n")
+    more = block_file([[sets("raw/a", 1)] * (MAX_TXS + 1)], [SECOND_VERSION])
+    yield from refused_runs(more, f"malformed {COUNT_OFFSET}")
+    draft = [{"set": {"sender": "u", "key": key, "value": value}} for key, value, _ in most]
+    yield run(b"pack 2", json.dumps([draft]).encode(), chain.file)
+    yield run(b"pack 2", json.dumps([[], [*draft, draft[0]]]).encode(), "badinput block 1\n", BAD_INPUT)
 
 
 def sets_of_bytes(size):
@@ -252,6 +275,30 @@ def long_block_runs():
         yield run(b"pack", json.dumps([draft]).encode(), printed, status)
 
 
+def deploys_of_bytes(size):
+    """Deploys of sources that are none, as long as they may be but for the last, in a block of so many bytes."""
+    left, block = size - FRONT_BYTES, []
+    around = len(deploys("c", "").bytes)
+    while left:
+        source = "\0" * min(MAX_SOURCE_BYTES, left - around)
+        block.append(deploys("c", source, BAD_SOURCE))
+        left -= around + len(source)
+    return block
+
+
+def waiting_runs():
+    """Blocks as long as a block may be: as many as may wait, the last of them first, and then the one that they wait
+    for: more than 64 MB wait together."""
+    block = deploys_of_bytes(MAX_BLOCK_BYTES)
+    file = block_file([block] * (MAX_AHEAD + 1))
+    assert len(file) == (4 + MAX_BLOCK_BYTES) * (MAX_AHEAD + 1)
+    statuses = ",".join([str(BAD_SOURCE)] * len(block))
+    chain = Chain(file, [], [f"block {at} rows 0 status {statuses}" for at in range(MAX_AHEAD + 1)])
+    kept = "".join(f"kept {at}\n" for at in range(MAX_AHEAD, 0, -1))
+    told = kept + chain.lines + followed(MAX_AHEAD + 1, 0)
+    yield run(b"follow", b"".join(reversed(chain.frames)), told, after=chain.log)
+
+
 def refused_runs(file, cause):
     """The first frame of a file is refused, and no log is made."""
     refused = f"refused frame 0 {cause}\n"
@@ -272,6 +319,27 @@ def uses_runs():
     yield from chain.question_runs("fwd", "raw/s", 0, 2)
 
 
+def long_proof_runs():
+    """A proof of more bytes than a frame may have that is made: of 16,000 uses by keys as long as they may be. It is
+    verified, and verifiers/verify.py takes it, too."""
+    source = ("raw/s", 0)
+    users = [
+        [(f"raw/{at}-{i}".ljust(MAX_KEY_BYTES, "."), i, [source]) for i in range(4_000)] for at in range(1, 5)
+    ]
+    chain = chain_of_sets([[("raw/s", 1, [])], *users])
+    uses = [(row.key, row.block) for row in chain.rows[1:]]
+    proof = chain.ledger.proof_of_uses("raw/s", 0, chain.head, chain.digest, uses)
+    assert len(proof) > MAX_FRAME_BYTES
+    line, told = proof.hex() + "\n", listed("uses", 0, uses)
+    question = "fwd raw/s 0"
+    verify = f"verify {chain.roots[-1]} {question}"
+    if told_of(verify.split(), line.encode()) != (told.splitlines(), DONE):
+        raise ValueError("the second verifier doesn't take a long proof")
+    yield run(question.encode(), None, told, log=chain.log)
+    yield run(f"prove {question} {chain.head}".encode(), None, line, log=chain.log)
+    yield run(verify.encode(), line.encode(), told)
+
+
 def ancestors_runs(chain, key):
     """All ancestors of the last version of a key, and the proof of them, made and verified."""
     history, head = History(chain.rows), chain.head
@@ -286,9 +354,10 @@ def ancestors_runs(chain, key):
 
 
 def trace_runs():
-    """A version with 999 ancestors in a line; and one with 448, each derived from all 64 of the block before."""
-    line = [[(f"raw/{at}", at, [(f"raw/{at - 1}", at - 1)] if at else [])] for at in range(1_000)]
-    yield from ancestors_runs(chain_of_sets(line), "raw/999")
+    """A version with 1,025 ancestors in a line; and one with 448, each derived from all 64 of the block before."""
+    last = 1_025
+    line = [[(f"raw/{at}", at, [(f"raw/{at - 1}", at - 1)] if at else [])] for at in range(last + 1)]
+    yield from ancestors_runs(chain_of_sets(line), f"raw/{last}")
     width = range(MAX_DEPS)
     net = [
         [(f"raw/{at}-{i}", i, [(f"raw/{at - 1}-{j}", at - 1) for j in width] if at else []) for i in width]
@@ -317,12 +386,20 @@ def range_runs():
     key, head = "raw/a", 599
     chain = chain_of_sets([[(key, at, [])] for at in range(head + 1)])
     history, digest, root = LongHistory(chain.rows, key), block_digests(chain.frames)[head], chain.roots[head]
+    if chain.ledger.whole_range_proof(key, head, digest) != range_proof_of(history, digest, key, 0, head, head):
+        raise ValueError("the proof of a long range differs")
     for first, last in [(0, head), (100, 500), (head - 9, head), (300, 300)]:
         told = text_of(range_of(chain.rows, key, first, last))
         proof = range_proof_of(history, digest, key, first, last, head).hex() + "\n"
         yield run(f"range {key} {first} {last}".encode(), None, told, log=chain.log)
         yield run(f"range prove {key} {first} {last} {head}".encode(), None, proof, log=chain.log)
         yield run(f"range verify {root} {key} {first} {last}".encode(), proof.encode(), told)
+    for far in (head + 1_000_001, 2**32 - 1):
+        beyond = f"beyond head {head}\n"
+        yield run(f"range {key} 0 {far}".encode(), None, beyond, BEYOND, log=chain.log)
+        yield run(f"range prove {key} 0 {far} {head}".encode(), None, beyond, BEYOND, log=chain.log)
+        question = f"range verify {root} {key} 0 {far}".encode()
+        yield run(question, proof.encode(), "rejected query\n", REJECTED)
     blocks = way(history, key, 0, head, head)
     step, verify = 300, f"range verify {root} {key} 0 {head}".encode()
     left = blocks[:step] + blocks[step + 1 :]
@@ -335,7 +412,23 @@ def range_runs():
     yield run(verify, proof, f"rejected path {step}\n", REJECTED)
 
 
+def many_versions_runs():
+    """65,537 versions of a key, one in each block, and the proof of them all, made and verified; its hex digits are
+    more than 20 million."""
+    key, head = "raw/a", 1 << 16
+    chain = chain_of_sets([[(key, at, [])] for at in range(head + 1)])
+    told = text_of(range_of(chain.rows, key, 0, head))
+    proof = chain.ledger.whole_range_proof(key, head, chain.digest).hex() + "\n"
+    yield run(f"range {key} 0 {head}".encode(), None, told, log=chain.log)
+    yield run(f"range prove {key} 0 {head} {head}".encode(), None, proof, log=chain.log)
+    yield run(f"range verify {chain.roots[head]} {key} 0 {head}".encode(), proof.encode(), told)
+
+
 # ---- long light files, and long inputs behind them
+
+# A proof of more than four million hex digits, and an answer.
+LONG_PROOF_BYTES = 2_100_000
+FIVE = ["block 0 tx 0 int 5"]
 
 
 def users_of_bytes(size):
@@ -365,13 +458,13 @@ def drawn_uses_proof(size):
 
 
 def light_runs():
-    """The light file of more blocks than a piece has; a proof that takes a whole frame, and one of a byte more, which
-    has none; and as many frames as may stand behind one, and one more."""
+    """The light file of more blocks than a piece has; a proof that takes a whole frame, one of a byte more, which has
+    none, and one of twice as many; a long light file; and as many frames as may stand behind one, and one more."""
     made = Generated(2_000, 7)
     chain = Chain(made.file, made.rows, made.plain_lines())
     light = light_file(block_digests(chain.frames), map(bytes.fromhex, chain.roots))
     yield run(b"light make", None, light, log=chain.log)
-    for size in (MAX_FRAME_BYTES, MAX_FRAME_BYTES + 1):
+    for size in (MAX_FRAME_BYTES, MAX_FRAME_BYTES + 1, LONG_PROOF_BYTES):
         proof, lines = drawn_uses_proof(size)
         assert len(proof) == size
         root = root_of(proof)
@@ -380,9 +473,24 @@ def light_runs():
         if size == MAX_FRAME_BYTES:
             told = text_of(accepted(0, "fwd", "raw/a", 0, 0, lines))
             yield run(b"light", one + frame(proof), told)
-        else:
+        elif size == MAX_FRAME_BYTES + 1:
             yield run(b"light", one + frame(proof), f"refused frame 0 length {size}\n", REFUSED)
+    yield from long_light_runs()
     yield from frame_runs()
+
+
+def long_light_runs():
+    """A light file of 20,000 blocks, which is more than a million bytes, and proofs by its first block, by its last
+    one, and by the block behind that."""
+    count = 20_000
+    history, digests = History([Row("raw/a", 0, 0, 5, [])]), [digest_of(number(at, 4)) for at in range(count + 1)]
+    blocks = (0, count - 1, count)
+    roots_of = {at: history.root(at, digests[at]) for at in blocks}
+    light = light_file(digests[:count], [roots_of.get(at, bytes(32)) for at in range(count)])
+    proofs = [proof_of(history, digests[at], "hist", "raw/a", at, at) for at in blocks]
+    told = [line for at, block in enumerate(blocks[:2]) for line in accepted(at, "hist", "raw/a", block, block, FIVE)]
+    told.append(f"proof 2 rejected unknown {count}")
+    yield run(b"light", light + b"".join(map(frame, proofs)), text_of(told), REJECTED)
 
 
 def frame_runs():
@@ -490,6 +598,6 @@ def sum_runs():
 
 
 PARTS = [
-    generated_runs, level_runs, full_runs, txs_runs, long_block_runs, uses_runs, trace_runs, range_runs, light_runs,
-    limit_runs, deps_runs, args_runs, sum_runs,
+    generated_runs, level_runs, full_runs, txs_runs, long_block_runs, waiting_runs, uses_runs, long_proof_runs,
+    trace_runs, range_runs, many_versions_runs, light_runs, limit_runs, deps_runs, args_runs, sum_runs,
 ]
