@@ -91,17 +91,11 @@ def command_routes(graph):
         yield variant, Route(f"`{variant}`" if variant else "words that are no command", graph.reach(starts))
 
 
-def clause_routes(graph, clauses):
-    """The route of each clause of `run` that names one definition, which says of one command's outputs what
-    they are good for: those that name a relation which `Wants` names, and not `Wants`."""
-    wanted = {
-        key
-        for _, _, references in graph.source(OUTPUT).equations("Wants")
-        for key in graph.keys(references)
-        if re.match(r"Is\w+Output$", key[1])
-    }
+def clause_routes(graph, clauses, laws):
+    """The route of each clause of `run` that is a law, and says what an output is good for: of all laws but those that
+    name what is wanted of every command."""
     for name, keys in clauses.items():
-        if any(wanted & set(graph.edges[key]) for key in keys if key != IS_WANTED):
+        if name in laws and IS_WANTED not in keys:
             yield name, Route(f"clause `{name}`", graph.reach(keys))
 
 
