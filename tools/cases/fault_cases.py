@@ -30,7 +30,7 @@ ADDED = ["block 0 rows 1 status 0", "block 1 rows 0 status -", "block 2 rows 1 s
 KNOWN = [f"known {at}\n" for at in range(len(BLOCKS))]
 HEAD_BLOCK = len(BLOCKS) - 1
 
-READ, SYNC, WRITE, TELL = "read", "sync", "write", "tell"
+READ, LOOK, SYNC, WRITE, TELL = "read", "look", "sync", "write", "tell"
 # What stands in place of bytes that a crash loses.
 FILLS = [CLOSED, OPEN, b"\x5a"]
 # How many of the bytes that are not synced a crash keeps: none, the first, the length of a block, or all.
@@ -153,6 +153,12 @@ def stored(record, gate, left):
         yield Call(SYNC, left)
 
 
+def looked(line, left):
+    """The calls that tell what the log holds already: it is looked at first."""
+    yield Call(LOOK, left)
+    yield Call(TELL, left, line)
+
+
 class Append:
     """The append of three blocks; in the log the first ones are of the first version, so many, and the mark follows
     where there are others."""
@@ -202,8 +208,11 @@ class Append:
                 if at == 0:
                     yield from created(image, left)
                 yield from stored(frame, gate, left)
-            yield Call(TELL, left, self.lines[at] if at >= held else KNOWN[at])
+                yield Call(TELL, left, self.lines[at])
+            else:
+                yield from looked(KNOWN[at], left)
             gate += 1 + len(frame)
+        yield Call(LOOK, left)
 
 
 class Upgrade:

@@ -10,12 +10,13 @@ from cases import changed_files
 from cases.block_files import OK, SECOND_VERSION, block_file, calls, number, sets
 from cases.block_reader import MAX_BLOCK_BYTES, MAX_NUMBER, decoded, stands_for
 from cases.fault_cases import (
-    APPEND, FRAMES, LINES, MARKED_APPEND, TELL, Append, Call, CrashCase, chain_in, created, opened, over_crashes, stored,
+    APPEND, FRAMES, LINES, MARKED_APPEND, TELL, Append, Call, CrashCase, chain_in, created, looked, opened, over_crashes,
+    reads_of, stored,
 )
 from cases.follow_model import BLOCK, IS_KNOWN, MAX_AHEAD, Follower, follow_over, lines_of
 from cases.log_cases import (
-    CLOSED, DONE, SCRATCH_FAULT, SET_FILE, SET_LOG, UNREADABLE, USAGE, LogCase, block, digest,
-    frames_of, log_of, torn_heads, torn_records, wrong_images,
+    CLOSED, DISK_FAULT, DONE, REFUSED, SCRATCH_FAULT, SET_FILE, SET_LOG, TRUNCATED, UNREADABLE, UNTOLD, USAGE, LogCase,
+    block, digest, frames_of, log_of, torn_heads, torn_records, wrong_images,
 )
 
 FOLLOW = "follow"
@@ -247,8 +248,9 @@ class Follow:
                         yield from created(image, left)
                     has_log, record = True, self.append.frames[turn.number]
                     yield from stored(record, follower.chain.end() - 1 - len(record), left)
-                yield Call(TELL, left, turn.line(self.append.lines))
-        yield Call(TELL, left, last_line(follower.held(), len(follower.waiting)))
+                line = turn.line(self.append.lines)
+                yield from looked(line, left) if turn.what == IS_KNOWN else [Call(TELL, left, line)]
+        yield from looked(last_line(follower.held(), len(follower.waiting)), left)
 
 
 def append_like(run, append):
@@ -304,6 +306,17 @@ def failing_pulls():
     )
 
 
+def failing_looks():
+    """Where no frame comes the log is looked at before the last line, and where one of bad form comes it isn't."""
+    for image in (b"", SET_LOG):
+        look, last = 1 + reads_of(image), last_line(len(chain_in(image)[0]), 0)
+        yield LogCase(FOLLOW, image, "", DISK_FAULT, calls=f"{look}")
+        yield LogCase(FOLLOW, image, "", UNTOLD, calls=f"{look + 1}")
+        yield LogCase(FOLLOW, image, last, DONE, calls=f"{look + 2}")
+        yield LogCase(FOLLOW, image, "", UNTOLD, file=b"x", calls=f"{look}")
+        yield LogCase(FOLLOW, image, TRUNCATED, REFUSED, file=b"x", calls=f"{look + 1}")
+
+
 def failing_scratch():
     """The run over the logs of the first blocks with each put of a body failing: that of a block that waits is put once
     it is due. Nothing is written for the block at work."""
@@ -337,7 +350,7 @@ def follow_cases():
     runs = itertools.starmap(over_crashes, FOLLOWS)
     for part in [
         first_table(), usages(), orders(), far_windows(), wrong_blocks(), bad_forms(), changed_frames(), over_logs(),
-        *runs, failing_pulls(), failing_scratch(), crashes(),
+        *runs, failing_pulls(), failing_looks(), failing_scratch(), crashes(),
     ]:
         for case in part:
             yield case.case()

@@ -658,7 +658,9 @@ def failing_calls():
         )
     tell = len(FAILED_CALLS)
     yield LogCase("append", b"", "", UNTOLD, SET_LOG, SET_FILE, calls=f"{tell}")
-    yield LogCase("append", b"", SET_LINE, DONE, SET_LOG, SET_FILE, calls=f"{tell + 1}")
+    # The disk is looked at before a run ends.
+    yield LogCase("append", b"", SET_LINE, DISK_FAULT, SET_LOG, SET_FILE, calls=f"{tell + 1}")
+    yield LogCase("append", b"", SET_LINE, DONE, SET_LOG, SET_FILE, calls=f"{tell + 2}")
     # The second of three blocks: the line of the first was told, and the third is left.
     second = block(1, bytes.fromhex(digest(SET_FILE)), [sets("raw/b", 1)])
     third = block(2, bytes.fromhex(digest(second)), [])
@@ -679,8 +681,17 @@ def failing_calls():
         yield LogCase(
             "append", SET_LOG, "", DISK_FAULT, file=SET_FILE, left=size, calls=f"{call}"
         )
-    yield LogCase("append", SET_LOG, "", UNTOLD, file=SET_FILE, calls=f"{opened + 1}")
-    yield LogCase("append", SET_LOG, "known 0\n", DONE, file=SET_FILE, calls=f"{opened + 2}")
+    # Where a block is known, the disk is looked at before its line, and then before the end.
+    yield LogCase("append", SET_LOG, "", DISK_FAULT, file=SET_FILE, calls=f"{opened + 1}")
+    yield LogCase("append", SET_LOG, "", UNTOLD, file=SET_FILE, calls=f"{opened + 2}")
+    yield LogCase("append", SET_LOG, "known 0\n", DISK_FAULT, file=SET_FILE, calls=f"{opened + 3}")
+    yield LogCase("append", SET_LOG, "known 0\n", DONE, file=SET_FILE, calls=f"{opened + 4}")
+    # So it is before the end where no frame comes. The line of a refused frame comes without a look.
+    for image, reads in [(b"", 1), (SET_LOG, opened)]:
+        yield LogCase("append", image, "", DISK_FAULT, calls=f"{reads + 1}")
+        yield LogCase("append", image, "", DONE, calls=f"{reads + 2}")
+        yield LogCase("append", image, "", UNTOLD, file=b"x", calls=f"{reads + 1}")
+        yield LogCase("append", image, TRUNCATED, REFUSED, file=b"x", calls=f"{reads + 2}")
     for question, answer in [(HIST, SET_ANSWER), ("root", SET_ROOT)]:
         for call in range(opened):
             yield LogCase(question, SET_LOG, "", DISK_FAULT, calls=f"{call}")

@@ -55,10 +55,15 @@ def has_begun(running):
     return struct.unpack("i", waiting) == (0,) or running.poll() is not None
 
 
-def wait_for(running):
-    until = time.monotonic() + LINE_LIMIT
-    while not has_begun(running) and time.monotonic() < until:
+def until(is_so):
+    """Waits until something is so, or for as long as a line is waited for."""
+    last = time.monotonic() + LINE_LIMIT
+    while not is_so() and time.monotonic() < last:
         time.sleep(PERIOD)
+
+
+def wait_for(running):
+    until(lambda: has_begun(running))
 
 
 def close(running):

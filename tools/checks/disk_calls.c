@@ -9,6 +9,7 @@
  *     CALLS_FILE=PATH    a line for each call is written there:
  *                        NUMBER NAME WHAT OFFSET SIZE RESULT, RESULT being -1 where it failed
  *     CALLS_FAIL=N       call N is not made, and fails with EIO, or with the error CALLS_ERROR
+ *     CALLS_TIMES=K      so do the next K - 1 calls of its name
  *     CALLS_SHORT=N      call N, a read or a write, moves one byte and no more
  *     CALLS_NOTHING=N    call N, a write, takes nothing
  *     CALLS_NO_MEMORY=N  the request for memory of that number, from 0, fails
@@ -17,8 +18,10 @@
  *     CALLS_REQUESTS=PATH  how many requests there were is written there at the end
  *     CALLS_BEFORE=N     before call N the log is changed, as CALLS_CHANGE says: `make` (or nothing said) puts the
  *                        file CALLS_OTHER there where there is none, `remove` takes its name away, `replace` puts
- *                        CALLS_OTHER in its place, `cut` takes its last byte away, `extend` puts a byte behind it.
+ *                        CALLS_OTHER in its place, `renew` a file with the same bytes, `cut` takes its last byte
+ *                        away, `empty` takes all away, `extend` puts a byte behind it.
  *                        What was opened is CALLS_KEPT then, too
+ *     CALLS_BACK=M       before call M that gets its name back
  *     CALLS_KILL=N       before call N the program is killed
  *     CALLS_DISK=PATH    what the disk is sure to hold is read there, and written there at the end: a byte,
  *                        1 where the folder is sure to name the log, else 0; a byte, how many writes are not
@@ -48,7 +51,8 @@ enum action { MAKE, FAIL, SHORT, NOTHING };
 static const char *log_name = "chain.log";
 static int told = -1;
 static long calls, allocations;
-static long failing = NEVER, shorter = NEVER, nothing = NEVER, before = NEVER;
+static long failing = NEVER, times = 1, shorter = NEVER, nothing = NEVER;
+static long before = NEVER, back = NEVER;
 static long no_memory = NEVER, no_more = NEVER, no_random = NEVER;
 static long killing = NEVER, error = EIO;
 static const char *other, *change, *kept_as, *disk, *requests;
@@ -69,9 +73,11 @@ __attribute__((constructor)) static void begin(void)
     if (getenv("CALLS_LOG"))
         log_name = getenv("CALLS_LOG");
     failing = number_of("CALLS_FAIL");
+    times = getenv("CALLS_TIMES") ? number_of("CALLS_TIMES") : 1;
     shorter = number_of("CALLS_SHORT");
     nothing = number_of("CALLS_NOTHING");
     before = number_of("CALLS_BEFORE");
+    back = number_of("CALLS_BACK");
     killing = number_of("CALLS_KILL");
     no_random = number_of("CALLS_NO_RANDOM");
     error = getenv("CALLS_ERROR") ? number_of("CALLS_ERROR") : EIO;
@@ -249,6 +255,18 @@ static void add_to_size(int bytes)
         die("disk_calls: the log's size");
 }
 
+/* Puts a file with the same bytes in the place of the log. */
+static void renew(void)
+{
+    static char copied[MAX_LOG_BYTES];
+    static const char *renewed = "renewed";
+    long size = read_file(log_name, copied, sizeof copied);
+    long file = syscall(SYS_openat, AT_FDCWD, renewed, O_WRONLY | O_CREAT | O_EXCL | O_CLOEXEC, 0666);
+    put(file, copied, size < 0 ? 0 : size);
+    syscall(SYS_close, file);
+    syscall(SYS_rename, renewed, log_name);
+}
+
 static void change_log(void)
 {
     if (kept_as)
@@ -259,14 +277,20 @@ static void change_log(void)
         syscall(SYS_unlink, log_name);
     else if (!strcmp(change, "replace"))
         syscall(SYS_rename, other, log_name);
+    else if (!strcmp(change, "renew"))
+        renew();
+    else if (!strcmp(change, "empty"))
+        syscall(SYS_truncate, log_name, 0);
     else
         add_to_size(strcmp(change, "cut") ? 1 : -1);
 }
 
 /* ---- telling, and deciding */
 
-static enum action next(const char *what)
+/* What is done with a call of this name. */
+static enum action next(const char *name, const char *what)
 {
+    static const char *failed;
     if (told < 0 || !what)
         return MAKE;
     if (calls == killing) {
@@ -275,7 +299,13 @@ static enum action next(const char *what)
     }
     if (calls == before)
         change_log();
-    return calls == failing ? FAIL : calls == shorter ? SHORT : calls == nothing ? NOTHING : MAKE;
+    if (calls == back)
+        syscall(SYS_rename, kept_as, log_name);
+    if (calls == failing)
+        failed = name;
+    if (failed && !strcmp(name, failed) && times-- > 0)
+        return FAIL;
+    return calls == shorter ? SHORT : calls == nothing ? NOTHING : MAKE;
 }
 
 static long tell(const char *name, const char *what, const char *format, long at, long size, long result)
@@ -302,7 +332,7 @@ static long fail(void)
 static long move(long call, const char *name, int file, void *bytes, size_t size, off_t at)
 {
     const char *what = at_file(file);
-    enum action action = next(what);
+    enum action action = next(name, what);
     size_t count = action == SHORT && size ? 1 : size;
     long result = action == FAIL ? fail() : action == NOTHING ? 0 : syscall(call, file, bytes, count, at);
     return tell(name, what, "%ld", at, size, result);
@@ -311,7 +341,7 @@ static long move(long call, const char *name, int file, void *bytes, size_t size
 static int file_call(long call, const char *name, int file, long word)
 {
     const char *what = at_file(file);
-    long result = next(what) == FAIL ? fail() : syscall(call, file, word);
+    long result = next(name, what) == FAIL ? fail() : syscall(call, file, word);
     return tell(name, what, "%ld", 0, word, result);
 }
 
@@ -376,7 +406,7 @@ int openat(int folder, const char *path, int flags, ...)
     long mode = flags & (O_CREAT | O_TMPFILE) ? va_arg(rest, int) : 0;
     va_end(rest);
     const char *what = at_path(path);
-    long result = next(what) == FAIL ? fail() : syscall(SYS_openat, folder, path, flags, mode);
+    long result = next("open", what) == FAIL ? fail() : syscall(SYS_openat, folder, path, flags, mode);
     return tell("open", what, "%lo", flags, mode, result);
 }
 
@@ -391,9 +421,9 @@ int open(const char *path, int flags, ...)
 
 int statx(int folder, const char *path, int flags, unsigned mask, struct statx *found)
 {
-    const char *what = *path ? at_path(path) : at_file(folder);
-    long result = next(what) == FAIL ? fail() : syscall(SYS_statx, folder, path, flags, mask, found);
-    return tell(*path ? "statx" : "fstat", what, "%ld", 0, 0, result);
+    const char *what = *path ? at_path(path) : at_file(folder), *name = *path ? "statx" : "fstat";
+    long result = next(name, what) == FAIL ? fail() : syscall(SYS_statx, folder, path, flags, mask, found);
+    return tell(name, what, "%ld", 0, 0, result);
 }
 
 int fcntl(int file, int command, ...)
@@ -403,7 +433,7 @@ int fcntl(int file, int command, ...)
     long word = va_arg(rest, long);
     va_end(rest);
     const char *what = command == F_DUPFD_CLOEXEC ? at_file(file) : NULL;
-    long result = next(what) == FAIL ? fail() : syscall(SYS_fcntl, file, command, word);
+    long result = next("dup", what) == FAIL ? fail() : syscall(SYS_fcntl, file, command, word);
     return tell("dup", what, "%ld", 0, 0, result);
 }
 
@@ -415,14 +445,14 @@ int fchmod(int file, mode_t mode)
 int flock(int file, int asked)
 {
     const char *what = at_file(file);
-    long result = next(what) == FAIL ? fail() : syscall(SYS_flock, file, asked);
+    long result = next("flock", what) == FAIL ? fail() : syscall(SYS_flock, file, asked);
     return tell("flock", what, "%ld", asked, 0, result);
 }
 
 int unlink(const char *path)
 {
     const char *what = at_path(path);
-    long result = next(what) == FAIL ? fail() : syscall(SYS_unlink, path);
+    long result = next("unlink", what) == FAIL ? fail() : syscall(SYS_unlink, path);
     return tell("unlink", what, "%ld", 0, 0, result);
 }
 

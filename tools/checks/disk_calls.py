@@ -116,10 +116,13 @@ class Watched:
             put(os.path.join(folder, LOG), log)
             return self.run_over(folder, words, source, **settings)
 
-    def run_over(self, ledger, words, source=b"", file_limit=None, other=None, disk=None, **settings):
-        """Runs words over an input, as bytes, in a folder. FAIL, ERROR, SHORT, NOTHING, NO_MEMORY, NO_MORE, BEFORE,
-        CHANGE, KILL and LOG are settings of tools/checks/disk_calls.c; `other` are the bytes of CALLS_OTHER, and
-        `disk` those of CALLS_DISK. With `file_limit`, the greatest size of a file, no calls are told."""
+    def run_over(
+        self, ledger, words, source=b"", file_limit=None, is_ignored=True, other=None, disk=None, **settings
+    ):
+        """Runs words over an input, as bytes, in a folder. FAIL, TIMES, ERROR, SHORT, NOTHING, NO_MEMORY, NO_MORE,
+        NO_RANDOM, BEFORE, CHANGE, BACK, KILL and LOG are settings of tools/checks/disk_calls.c; `other` are the bytes of CALLS_OTHER, and
+        `disk` those of CALLS_DISK. With `file_limit`, the greatest size of a file, no calls are told, and the
+        signal that comes where a write is past it is ignored, or not."""
         with tempfile.TemporaryDirectory() as folder, tempfile.TemporaryFile() as given:
             settings = {f"CALLS_{name}": str(setting) for name, setting in settings.items()}
             calls = os.path.join(folder, "calls")
@@ -136,7 +139,7 @@ class Watched:
             put(calls, b"")
             given.write(source)
             given.seek(0)
-            told, status = self.run_in(ledger, words, given, settings, lambda: limit_files(file_limit))
+            told, status = self.run_in(ledger, words, given, settings, lambda: limit_files(file_limit, is_ignored))
             with open(calls) as lines:
                 calls = [read_call(line) for line in lines]
             requests = get(settings["CALLS_REQUESTS"])
@@ -178,10 +181,12 @@ def offset_of(file):
     return os.lseek(file.fileno(), 0, os.SEEK_CUR)
 
 
-def limit_files(size):
-    """Lets no file of this process grow past a size: a write past it fails, and no signal comes."""
+def limit_files(size, is_ignored):
+    """Lets no file of this process grow past a size: a write past it fails, and a signal comes, which ends the process
+    where it isn't ignored. No file is made of what its memory held then."""
     if size is not None:
-        signal.signal(signal.SIGXFSZ, signal.SIG_IGN)
+        signal.signal(signal.SIGXFSZ, signal.SIG_IGN if is_ignored else signal.SIG_DFL)
+        resource.setrlimit(resource.RLIMIT_CORE, (0, 0))
         resource.setrlimit(resource.RLIMIT_FSIZE, (size, size))
 
 

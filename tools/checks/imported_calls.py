@@ -16,11 +16,11 @@ TOLD = {
 }
 # Those that give memory, which it refuses.
 GIVING = {"malloc", "calloc", "realloc", "memalign", "aligned_alloc", "posix_memalign", "mmap"}
-# Those that do neither; one asks what the processor can do, one for random bytes. To close a file loses nothing that was written; it ends
-# the lock, which lock_checks.py looks at.
+# Those that do neither; one asks what the processor can do, one for random bytes, and one waits. To close a file loses
+# nothing that was written; it ends the lock, which lock_checks.py looks at.
 HARMLESS = {
-    "close", "free", "getenv", "environ", "getentropy", "memcpy", "memmove", "memset", "memcmp", "bcmp", "strlen",
-    "__x86_get_cpuid_feature_leaf",
+    "close", "free", "getenv", "environ", "getentropy", "memcpy", "memmove", "memset", "memcmp", "bcmp", "nanosleep",
+    "strlen", "__x86_get_cpuid_feature_leaf",
 }
 # What each program has for its start and its end.
 STARTING = {

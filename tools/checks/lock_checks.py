@@ -5,14 +5,15 @@ What is expected was written from docs/log.md.
 """
 import contextlib
 import fcntl
+import itertools
 import os
 import subprocess
 import tempfile
 
-from cases.log_cases import ALREADY, DISK_FAULT, DONE, SET_LOG, log_of, upgraded
+from cases.log_cases import DISK_FAULT, DONE, SET_LOG, log_of, upgraded
 from checks.append_pairs import wait_for
 from checks.disk_calls import get, put
-from checks.edge_calls import CHANGING, FRAMES, LINES, MARKED_LOG, changes, steps
+from checks.edge_calls import CHANGING, FOUND, FRAMES, LINES, MARKED_LOG, changes, steps
 from checks.log_runs import (
     LINE_LIMIT, LOG, ask, held_frames, is_marked, known_lines, read_line, start_storing, store, without_roots,
 )
@@ -21,6 +22,8 @@ from checks.program_cases import EXPOSE, RAW_A_PROOF, RECALL_FILE, RECALL_LOG, R
 # How many bytes of a frame are part of it.
 PART = 2
 PLAIN_LINES = list(map(without_roots, LINES))
+# The commands that take blocks.
+STORING = ["append", "follow"]
 # Questions over the log of three blocks, and what they tell.
 QUESTIONS = [
     ("fwd raw/part/p1", USED),
@@ -49,9 +52,10 @@ def is_locked(folder):
 
 
 @contextlib.contextmanager
-def running_append(watched, folder):
-    """An `append` whose input is a pipe that stays open; it is killed at the end, where it runs still."""
-    running = start_storing(watched.program, folder, subprocess.PIPE)
+def running_append(watched, folder, command="append"):
+    """An `append`, or a `follow`, whose input is a pipe that stays open; it is killed at the end, where it runs
+    still."""
+    running = start_storing(watched.program, folder, subprocess.PIPE, command)
     try:
         yield running
     finally:
@@ -88,7 +92,7 @@ def lock_of_another(checks, watched):
                 ran = watched.run_over(folder, words, source)
                 name = f"{words} over a log whose lock {kind} another program holds"
                 checks.same(name, (ran.told, ran.status, ran.log), ("", DISK_FAULT, RECALL_LOG))
-                checks.same(f"calls of {name}", steps(ran.calls), ["path", "open", "apart", "lock"])
+                checks.same(f"calls of {name}", steps(ran.calls), FOUND[: FOUND.index("lock") + 1])
                 checks.same(f"input of {name}", ran.read, 0)
             for words, told in QUESTIONS:
                 checks.same(f"{words} meanwhile", ask(watched.program, folder, *words.split()), (told, DONE))
@@ -151,9 +155,14 @@ def remove(folder):
     os.unlink(os.path.join(folder, LOG))
 
 
-def replace(folder):
-    put(os.path.join(folder, "other"), OTHER)
+def replace(folder, other=OTHER):
+    put(os.path.join(folder, "other"), other)
     os.rename(os.path.join(folder, "other"), os.path.join(folder, LOG))
+
+
+def renew(folder):
+    """Another file comes in the place of the log, with the same bytes."""
+    replace(folder, get(os.path.join(folder, LOG)))
 
 
 def resize(folder, bytes_):
@@ -165,42 +174,77 @@ def cut(folder):
     resize(folder, -1)
 
 
+def empty(folder):
+    os.truncate(os.path.join(folder, LOG), 0)
+
+
 def extend(folder):
     resize(folder, 1)
 
 
-CHANGES = [remove, replace, cut, extend]
+CHANGES = [remove, replace, renew, cut, empty, extend]
+# How many of the first two blocks stand in the log before a run; it stores the others of the two.
+HELD = [0, 1, 2]
+# What is given behind a change: the end of the input, a block that the log has, and its next one.
+GIVEN = {"nothing": b"", "a known block": FRAMES[0], "the last known block": FRAMES[1], "the next block": FRAMES[2]}
 
 
 def changes_between_frames(checks, watched):
-    """Once the log isn't the file that was opened, or another program has changed its length, nothing is written to it
-    and no further block is told of. What was told of stands in the file that was opened."""
-    for held in [0, 1]:
-        for change in CHANGES:
-            log = log_of(b"".join(FRAMES[:held])) if held else None
-            with folder_of(log) as folder, running_append(watched, folder) as running:
-                lines = known_lines(held) + PLAIN_LINES[held:]
-                name = f"append over {held} blocks to which somebody does `{change.__name__}`"
-                for number, frame in enumerate(FRAMES[:2]):
-                    checks.same(f"line {number} of {name}", give(running, frame), lines[number])
-                kept, path = os.path.join(folder, "kept"), os.path.join(folder, LOG)
-                os.link(path, kept)
-                change(folder)
-                before = get(path), get(kept)
-                running.stdin.write(FRAMES[2])
-                checks.same(name, end(running), ("", DISK_FAULT))
-                checks.same(f"files after {name}", (get(path), get(kept)), before)
+    """Once the log isn't the file that was opened, or another program has changed its length, nothing is written to it,
+    and no further block is told of, not even one that it had: a run ends with the status of a fault, also where it is
+    given nothing more. What was told of stands in the file that was opened, as far as it wasn't cut."""
+    for words, held, change, given in itertools.product(STORING, HELD, CHANGES, GIVEN):
+        log = log_of(b"".join(FRAMES[:held])) if held else None
+        with folder_of(log) as folder, running_append(watched, folder, words) as running:
+            lines = known_lines(held) + PLAIN_LINES[held:]
+            name = f"{words} over {held} blocks to which somebody does `{change.__name__}`, and then given {given}"
+            for number, frame in enumerate(FRAMES[:2]):
+                checks.same(f"line {number} of {name}", give(running, frame), lines[number])
+            kept, path = os.path.join(folder, "kept"), os.path.join(folder, LOG)
+            os.link(path, kept)
+            change(folder)
+            before = get(path), get(kept)
+            running.stdin.write(GIVEN[given])
+            checks.same(name, end(running), ("", DISK_FAULT))
+            checks.same(f"files after {name}", (get(path), get(kept)), before)
+            if change is not empty:
                 checks.same(f"blocks after {name}", held_frames(get(kept)), FRAMES[:2])
 
 
+# Changes after which the path leads to the file that was opened no more.
+LEADING_AWAY = [remove, replace, renew]
+
+
+def changes_while_opened(checks, watched):
+    """Where the path of a log leads to it no more at a time between its opening and its first read, nothing is written,
+    and nothing told; also where it does so again a call later."""
+    for words, change in itertools.product(CHANGING, LEADING_AWAY):
+        good = watched.run(words, RECALL_FILE, RECALL_LOG)
+        names = [(call.name, call.what) for call in good.calls]
+        openings = [number for number, name in enumerate(names) if name == ("open", "log")]
+        settings = {"CHANGE": change.__name__, "other": OTHER}
+        for number in range(openings[0] + 1, names.index(("pread", "log"))):
+            ran = watched.run(words, RECALL_FILE, RECALL_LOG, BEFORE=number, **settings)
+            name = f"{words} where somebody does `{change.__name__}` before call {number}, {good.calls[number]}"
+            checks.same(name, (ran.told, ran.status, ran.kept), ("", DISK_FAULT, RECALL_LOG))
+            checks.holds(f"nothing is written, {name}", not any(call.name == "pwrite" for call in ran.calls))
+        # One that has no name can't be opened again.
+        for number in openings[1:] * (change is not remove):
+            ran = watched.run(words, RECALL_FILE, RECALL_LOG, BEFORE=number, BACK=number + 1, **settings)
+            name = f"{words} where somebody does `{change.__name__}` before it is opened again, and undoes it"
+            checks.same(name, (ran.told, ran.status, ran.log), ("", DISK_FAULT, RECALL_LOG))
+
+
 # Runs to which such a change is made: the words, and the log before.
-RUNS = [("append", None), ("append", log_of(FRAMES[0]))]
-RUNS += [("upgrade", None), ("upgrade", log_of(FRAMES[0])), ("upgrade", MARKED_LOG)]
+RUNS = list(itertools.product(STORING, [None, log_of(FRAMES[0]), RECALL_LOG]))
+RUNS += [("upgrade", log) for log in (None, log_of(FRAMES[0]), MARKED_LOG)]
+# What tells whether the path leads to the file that was opened, and how long that is.
+LOOK = "statx", "log"
 
 
 def changes_at_each_call(checks, watched):
     """The same, with the change before each call from the lock of a log on that was made, or from the last read of one
-    that was found: the next look at what was changed ends the run."""
+    that was found: the next look ends the run. The last one comes before the last line, or after it."""
     for words, log in RUNS:
         good = watched.run(words, RECALL_FILE, log)
         names = [(call.name, call.what) for call in good.calls]
@@ -208,9 +252,8 @@ def changes_at_each_call(checks, watched):
         if log is not None:
             first = len(names) - names[::-1].index(("pread", "log"))
         for change in CHANGES:
-            look = ("statx" if change in (remove, replace) else "fstat"), "log"
             for number in range(first, len(names)):
-                seen = (names + [look]).index(look, number)
+                seen = (names + [LOOK]).index(LOOK, number)
                 if names[number][1] != "input" and not is_written_over(change, log, good.calls[:seen], number):
                     changed_call(checks, watched, words, log, good, change, number, seen)
 
@@ -220,7 +263,7 @@ def is_written_over(change, log, calls, number):
     there is nothing to cut."""
     is_empty = log is None and not any(call.name == "pwrite" for call in calls[:number])
     is_past = any(call.name == "pwrite" and call.size > 1 for call in calls[number:])
-    return change in (cut, extend) and (is_past or is_empty)
+    return change in (cut, empty, extend) and (is_past or is_empty)
 
 
 def changed_call(checks, watched, words, log, good, change, number, look):
@@ -230,12 +273,12 @@ def changed_call(checks, watched, words, log, good, change, number, look):
     status = DISK_FAULT if look < len(good.calls) else DONE
     told = "".join(good.told.splitlines(keepends=True)[: sum(call.what == "output" for call in good.calls[:look])])
     checks.same(name, (ran.told, ran.status), (told, status))
-    # The path is looked at right after the file, whatever that tells.
     checks.same(f"calls after {name}", changes(ran.calls[look + 1 :]), [])
-    kept, lines = ran.kept or b"", told.count("\n")
-    sure = lines if words == "append" else len(held_frames(log or b""))
-    checks.same(f"blocks after {name}", held_frames(kept)[:sure], FRAMES[:sure])
-    if words == "upgrade":
-        checks.holds(f"the mark is there that was told of, after {name}", is_marked(kept) >= lines)
     if change is replace:
         checks.same(f"what stands in its place after {name}", ran.log, OTHER)
+    if change is not empty:
+        kept, lines = ran.kept or b"", told.count("\n")
+        sure = lines if words in STORING else len(held_frames(log or b""))
+        checks.same(f"blocks after {name}", held_frames(kept)[:sure], FRAMES[:sure])
+        if words == "upgrade":
+            checks.holds(f"the mark is there that was told of, after {name}", is_marked(kept) >= lines)

@@ -11,7 +11,7 @@ import tempfile
 
 from cases.log_cases import ALREADY, BEYOND, DISK_FAULT, DONE, SCRATCH_FAULT, SET_LOG, log_of
 from checks.disk_calls import Watched, put
-from checks.edge_calls import FOLLOWED, FRAMES, LINES, MARKED_LOG, QUESTION
+from checks.edge_calls import FOLLOWED, FRAMES, KNOWN, MARKED_LOG, QUESTION
 from checks.limits import limited
 from checks.lock_checks import PLAIN_LINES, QUESTIONS, end, give, running_append
 from checks.log_runs import LOG, RUN_LIMIT, SCRATCH_FOLDER, environment, held_frames, known_lines
@@ -53,7 +53,6 @@ shift 2
 exec "$@"
 """
 ROOT = f"root 2 {RECALL_ROOTS[2]}\n"
-KNOWN = "".join(known_lines(3))
 # The words, the input, the log before, whether the scratch file has another folder, what is told, and the status.
 MOUNTED = [
     *((words, b"", RECALL_LOG, False, told, DONE) for words, told in QUESTIONS if not words.startswith("root")),

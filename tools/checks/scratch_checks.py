@@ -5,19 +5,21 @@ What is expected was written from docs/log.md. Which bodies are put is worked ou
 what is made of those that are read back by tools/cases/growing_roots.py and tools/cases/proof_cases.py.
 """
 import errno
+import itertools
 import os
 import tempfile
 
 from cases.block_files import OK, block_file, calls, deploys, sets
 from cases.growing_roots import growing_roots
-from cases.log_cases import DISK_FAULT, DONE, SCRATCH_FAULT, frames_of, log_of, upgraded
+from cases.log_cases import DONE, SCRATCH_FAULT, frames_of, log_of, upgraded
 from cases.proof_cases import proof_of
 from cases.range_cases import range_of, range_proof_of
 from cases.root_cases import History, Row, block_digests
 from cases.trace_cases import trace_proof_of
 from cases.verifier import told_of
 from checks.disk_calls import CREATE, NEW, TRUNCATE, get, put
-from checks.edge_calls import ERRORS, FRAMES, LINES, QUESTION, goes_on, run_again, some_of_each_kind
+from checks.edge_calls import AT_LIMIT, ERRORS, FRAMES, INTERRUPTED, LINES, QUESTION, goes_on, made_again, run_again
+from checks.edge_calls import some_of_each_kind
 from checks.lock_checks import give, running_append
 from checks.log_runs import LOG, SCRATCH, SCRATCH_FOLDER, held_frames, known_lines
 from checks.program_cases import BATCH, MADE_FROM, OF_PART, RECALL_FILE, RECALL_LIGHT, RECALL_LOG, RECALL_ROOTS
@@ -130,8 +132,8 @@ def no_scratch_file(checks, watched):
 
 
 def scratch_calls(checks, watched):
-    """What is done with the scratch file, in which order; and each of these calls failing, moving one byte, or taking
-    nothing."""
+    """What is done with the scratch file, in which order; and each of these calls failing, moving one byte, taking
+    nothing, or being interrupted, after which it is made again."""
     history = History(RECALL_ROWS)
     for words, source, log, told in RUNS:
         read_back = [RECALL_ROWS.index(READING_BACK[words])] if words in READING_BACK else []
@@ -145,8 +147,8 @@ def scratch_calls(checks, watched):
 
 
 def scratch_run(checks, watched, run):
-    """What is done with the scratch file in a run; and each of these calls failing, moving one byte, or taking
-    nothing."""
+    """What is done with the scratch file in a run; and each of these calls failing, moving one byte, taking nothing, or
+    being interrupted."""
     words, source, log, told, wanted = run
     good = watched.run(words, source, log, LOG=SCRATCH)
     checks.same(f"{words} with its scratch file", (good.told, good.status), (told, DONE))
@@ -156,6 +158,8 @@ def scratch_run(checks, watched, run):
     for number, call in numbered:
         for setting in ["FAIL"] + ["NOTHING", "SHORT"] * call.moves_bytes():
             scratch_call(checks, watched, run, good, {setting: number})
+        if call.name in INTERRUPTED:
+            made_again(checks, watched, run[:3], good, number, {"ERROR": errno.EINTR, "LOG": SCRATCH})
     return good
 
 
@@ -178,15 +182,14 @@ def scratch_steps(calls):
 
 def scratch_call(checks, watched, run, good, settings):
     """A run of which one call of the scratch file was made to fail, or to move fewer bytes. Where its name can't be
-    taken away, that is done at the end; a call that was interrupted may be made again. No run leaves it."""
+    taken away, that is done at the end. No run leaves it."""
     words, source, log, *_ = run
     number = next(iter(settings.values()))
     call = good.calls[number]
     ran = watched.run(words, source, log, LOG=SCRATCH, **settings)
     name = f"{words} over {len(log or b'')} bytes, {settings} {call} of the scratch file"
     checks.same(f"files after {name}", [file for file in ran.names if file != LOG], [])
-    is_made_again = settings.get("ERROR") == errno.EINTR and ran.status == DONE
-    if "SHORT" in settings or call.name == "unlink" or is_made_again:
+    if "SHORT" in settings or call.name == "unlink":
         checks.same(name, (ran.told, ran.status, ran.log), (good.told, good.status, good.log))
         return
     lines = good.told.splitlines(keepends=True)
@@ -302,17 +305,19 @@ def versions_read_back(checks, watched):
 
 def limit_of_the_scratch_file(checks, watched):
     """Files that may not grow past some size: where a write of bodies is short, or fails, nothing is told; where all
-    are done, the log can't be written. Either way the next run goes on."""
+    are done, the log can't be written. So it is where the signal ends the run that comes with that, unless it is
+    ignored. The next run goes on."""
     chain = ReadBack()
     lines = list(chain.lines())
     ends = [at + size for name, at, size in chain.moves().made if name == "pwrite"]
     checks.holds("bodies are written more than once", len(ends) > 1)
     checks.holds("the first block is longer than its bodies", len(log_of(chain.frames[0])) > ends[-1])
-    for size in [ends[0] - 1, ends[0], ends[-1] - 1, ends[-1]]:
-        ran = watched.run("append", chain.file, file_limit=size)
-        name = f"append that reads bodies back, of files of at most {size} bytes"
-        wanted = "", DISK_FAULT if size >= ends[-1] else SCRATCH_FAULT
-        checks.same(name, (ran.told, ran.status), wanted)
+    for size, is_ignored in itertools.product([ends[0] - 1, ends[0], ends[-1] - 1, ends[-1]], AT_LIMIT):
+        ran = watched.run("append", chain.file, file_limit=size, is_ignored=is_ignored)
+        name = f"append that reads bodies back, of files of at most {size} bytes, the signal ignored: {is_ignored}"
+        wanted = SCRATCH_FAULT if is_ignored and size < ends[-1] else AT_LIMIT[is_ignored]
+        checks.same(name, (ran.told, ran.status), ("", wanted))
+        checks.same(f"files after {name}", [file for file in ran.names if file != LOG], [])
         checks.same(f"blocks after {name}", held_frames(ran.log or b""), [])
         stores_the_rest(checks, watched, chain.file, ran.log, lines, name)
 

@@ -16,7 +16,8 @@ from cases.block_files import (
     FIRST_VERSION, NO_CONTRACT, SECOND_VERSION, block_digest, block_file, block_frame, calls, sets,
 )
 from cases.light_cases import frame
-from cases.log_cases import CLOSED, CLOSED_HEAD, HEAD, NOT_A_LOG, OPEN, REFUSED, SET_FILE, SET_LINE, SET_LOG
+from cases.log_cases import CLOSED, CLOSED_HEAD, DISK_FAULT, HEAD, NOT_A_LOG, OPEN, REFUSED, SCRATCH_FAULT, SET_FILE
+from cases.log_cases import SET_LINE, SET_LOG, UNTOLD
 from checks import build_checks, disk_calls, page_runs, word_checks
 from checks.limits import by_clock, limited
 from checks.log_runs import LOG
@@ -26,8 +27,11 @@ from checks.program_cases import (
     WITHOUT_44, s1_proof,
 )
 from checks.program_runs import TOP, check_case, take_rights
+from checks.scratch_checks import GATHERED_BYTES, ReadBack
 from lineage import commands, lineage_input, lineage_messages, statuses
 
+# A limit of files that is less than what `gen` prints, and than a log with a block.
+FEW_BYTES = 40
 # How many seconds of a processor a run may take, and how long one waits for another.
 RUN_LIMIT = 60
 PAUSE = 1
@@ -349,7 +353,7 @@ def what_of_rights(checks):
                 checks.holds(f"{told!r} has {said!r}", said in told)
             os.chmod(folder, 0o755)
     with tempfile.TemporaryDirectory() as folder:
-        told = disk_sentence_in(folder, lambda: disk_calls.limit_files(100))
+        told = disk_sentence_in(folder, lambda: disk_calls.limit_files(100, True))
         checks.holds(f"{told!r} names the limit", "longer than 100 bytes" in told)
 
 
@@ -576,6 +580,29 @@ def pages(checks, tree):
         checks.same(line, False, True)
 
 
+def limits_of_files(checks, wrapper):
+    """Where a file is at the limit of its length the program ends as where that can't be written: the signal that would
+    end it is ignored. Such a run leaves nothing that the next one can't use."""
+    chain = ReadBack().file
+    for words, source, limit, status in [
+        (["gen", "200", "7"], b"", FEW_BYTES, UNTOLD),
+        (["append"], SET_FILE, FEW_BYTES, DISK_FAULT),
+        # The first bodies that are written to the scratch file.
+        (["append"], chain, GATHERED_BYTES // 2, SCRATCH_FAULT),
+    ]:
+        files = tempfile.TemporaryFile(), tempfile.TemporaryFile()
+        with tempfile.TemporaryDirectory() as folder, files[0] as given, files[1] as told:
+            given.write(source)
+            given.seek(0)
+            streams = QUIET | {"stdin": given, "stdout": told}
+            limits = limited(RUN_LIMIT, lambda: disk_calls.limit_files(limit, False))
+            ran = subprocess.run([wrapper, *words], cwd=folder, **streams, **limits)
+            name = f"{words} over {len(source)} bytes, where a file has at most {limit}"
+            checks.same(name, ran.returncode, status)
+            checks.same(f"what is told, {name}", os.fstat(told.fileno()).st_size, limit if status == UNTOLD else 0)
+            checks.same(f"files after {name}", set(os.listdir(folder)) - {LOG}, set())
+
+
 class Wrapped:
     """./lineage over a program, in a tree of its own, which is made in a folder."""
 
@@ -598,6 +625,7 @@ PARTS = {
     "what_of_the_disk": lambda checks, it: what_of_the_disk(checks, it.wrapper),
     "what_of_rights": lambda checks, it: what_of_rights(checks),
     "waiting": lambda checks, it: lock(checks, it.wrapper),
+    "limits_of_files": lambda checks, it: limits_of_files(checks, it.wrapper),
     "locked_log": lambda checks, it: locked_log(checks),
     "locked_append": lambda checks, it: locked_append(checks, it.wrapper),
     "zeroed_log": lambda checks, it: zeroed_log(checks, it.wrapper),

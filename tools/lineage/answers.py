@@ -43,8 +43,9 @@ PACKS = [["pack"], ["pack", "2"]]
 # What is typed by one who wants bytes on a terminal, and how much is read of it.
 YES = (b"y", b"yes")
 MOST_OF_ANSWER = 80
-# The signals that Python ignores, and the program doesn't.
-IGNORED = (_signal.SIGPIPE, _signal.SIGXFSZ)
+# The signal that Python ignores, and the program doesn't. It ignores SIGXFSZ as Python does, so that a write past
+# a limit of the system (`ulimit -f`) fails and doesn't end it.
+NOT_IGNORED = (_signal.SIGPIPE,)
 NOT_PROVED_YET = "not proved: this clone has not checked the proofs of this program; `./lineage --prove` does"
 NOT_PROVED_ANY_MORE = "not proved any more: {}; `./lineage --prove` proves what changed"
 
@@ -146,7 +147,7 @@ class Child:
 
     def __init__(self, program, words, source, output):
         actions = [(os.POSIX_SPAWN_DUP2, given, at) for at, given in ((0, source), (1, output)) if given is not None]
-        how = {"file_actions": actions, "setsigdef": IGNORED}
+        how = {"file_actions": actions, "setsigdef": NOT_IGNORED}
         self.process = os.posix_spawn(program, [program, *words], os.environ, **how)
         self.has_ended = False
 

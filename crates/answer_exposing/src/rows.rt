@@ -22,10 +22,20 @@ ghost use Rattle.text_clashes.specs.Searching.{Searches};
 use entry_store::EntryId;
 use lc_base::{Dep, HostError, Memory};
 use lc_io::Scratch;
-use merkle_dag::Lineage;
+use merkle_dag::{Counter, Lineage, Steps};
 use prov_entry::{BODY, HEADER, Header, no_uses, with_use, write_header};
 use std::alloc::Global;
 use text_clashes::{ClashSearch, tagged_text, use_text};
+
+/// The counter of the entries that are read for a search, which nobody asks for. Counts of it are
+/// begun in this file alone.
+struct Searching;
+
+impl Counter for Searching {
+    ghost use Rattle.std.specs.Prelude.{true};
+
+    ghost may_begin = { true };
+}
 
 /// Adds the text of a header.
 fn search_header(alloc: Global, search: &mut ClashSearch, header: &Header) -> Result<(), Memory>
@@ -51,7 +61,8 @@ fn search_row_header(
 {
     // The call makes it known that the rows are typed, so that their headers can be spelled.
     let _typed = lineage.row_count();
-    let header = lineage.header(index)?;
+    let mut steps = Steps::<Searching>::new();
+    let header = lineage.header(index, &mut steps)?;
     search_header(alloc, search, &header)
 }
 

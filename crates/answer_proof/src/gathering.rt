@@ -21,19 +21,30 @@ use crate::typed::check_types;
 use crate::walking::path_headers;
 use lc_base::{Bytes, HostError, Memory};
 use lc_io::Scratch;
-use merkle_dag::{Lineage, Steps};
+use merkle_dag::{Counter, Lineage, Steps};
 use proof_codec::{LeafProof, Proof, write};
 use prov_entry::Body;
 use std::alloc::Global;
 
+/// The counter of the entries that are read for a proof, which nobody asks for. Counts of it are
+/// begun in this file alone.
+struct Proving;
+
+impl Counter for Proving {
+    ghost use Rattle.std.specs.Prelude.{true};
+
+    ghost may_begin = { true };
+}
+
 /// The proof made of all rows of a lineage, with this body. `answer` is the index of the row that
 /// answers. The rows must be those up to the root's block.
-fn proof_with(
+fn proof_with<C: Counter>(
     alloc: Global,
     lineage: &Lineage,
     asked: &Asked,
     answer: Option<u32>,
     body: Option<Body>,
+    steps: &mut Steps<C>,
 ) -> Result<Proof, Memory>
     requires early { asked.now.query.at ≤ asked.now.root_at }
     requires answer { IsRowAt lineage.now.rows answer
@@ -54,7 +65,7 @@ fn proof_with(
     let tree = lineage.tree();
     let leaf_index = tree.covering(&asked.query.key);
     let audit = tree.audit(leaf_index)?;
-    let headers = path_headers(alloc, lineage, &asked.query.key, asked.query.at)?;
+    let headers = path_headers(alloc, lineage, &asked.query.key, asked.query.at, steps)?;
     let uses = uses_if_asked(lineage, asked.query.kind, answer)?;
     Ok(Proof {
         query: asked.query,
@@ -92,10 +103,10 @@ pub(crate) fn bytes_of_rows<S: Scratch>(
     ensures leaves { LeavesLineage S.state S.scratch_faults lineage.old scratch.old lineage.new
         scratch.new (IsErrOf result HostError.Fault) }
 {
-    let mut steps = Steps::new();
+    let mut steps = Steps::<Proving>::new();
     let answer = lineage.latest_row(&asked.query.key, asked.query.at, &mut steps);
     let body = body_if_any(alloc, lineage, scratch, answer)?;
-    let proof = proof_with(alloc, lineage, asked, answer, body)?;
+    let proof = proof_with(alloc, lineage, asked, answer, body, &mut steps)?;
     let bytes = write(alloc, &proof)?;
     Ok(bytes)
 }

@@ -1,6 +1,6 @@
 -- Runs of `light make` and of `light`: they print their output.
-use Rattle.std.proofs.Common.{◌≡◌, ℕ, Bool, true, false, List, [], Option, Some, Result, Ok, Err}
-use Rattle.std.proofs.Common.{refl, sym}
+use Rattle.std.proofs.Common.{◌≡◌, ℕ, Bool, true, false, List, Option, Some, Result, Ok, Err}
+use Rattle.std.proofs.Common.{refl}
 use Rattle.std.proofs.Common.{ap, ◌∙◌, map}
 use Rattle.std.specs.Prelude.{IfOk}
 use Rattle.lc_io.specs.Disk.{DiskState, Stays}
@@ -10,14 +10,13 @@ use Rattle.lc_base.specs.declared.digest.Digest.{Digest}
 use Rattle.lc_base.specs.declared.row.Row.{Row}
 use Rattle.block_codec.specs.Reading.{block_in}
 use Rattle.block_codec.specs.Placement.{digest_of}
-use Rattle.block_codec.specs.declared.block.Block.{Block}
 use Rattle.block_log.specs.Standing.{standing}
 use Rattle.cli_proofs.specs.Exposing.{ledger_kept}
 use Rattle.chain_exec.specs.Compiled.{compiled_in}
 use Rattle.chain_exec.specs.Effect.{History}
 use Rattle.chain_exec.specs.Replay.{replay}
 use Rattle.merkle_dag.specs.Ledger.{Ledger}
-use Rattle.chain_replay.specs.Chain.{ChainState, StandsFor}
+use Rattle.chain_replay.specs.Chain.{ChainState}
 use Rattle.cli_append.specs.recovery.Node.{IsChainStored, next_in_chain}
 use Rattle.cli_append.specs.cli_promises.declared.ending.RunStop.{RunStop}
 use Rattle.cli_lines.specs.Outcome.{outcome_with}

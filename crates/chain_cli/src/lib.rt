@@ -4,6 +4,7 @@
 
 mod answering;
 mod asking;
+mod edge;
 mod exit;
 mod fmt;
 mod generating;

@@ -18,11 +18,21 @@ ghost use Rattle.chain_load.specs.{
 };
 
 use chain_pack::Gen;
+use entry_store::{Counter, Steps};
 use lc_base::{Answer, HostError, Kind, Query, Value};
 use lc_io::Scratch;
-use lineage_index::Steps;
 use rooted_chain::{Lineage, QueryError, ask};
 use std::alloc::Global;
+
+/// The counter of the entries that the look-ups of a load read. Counts of it are begun in this file
+/// alone.
+struct Looking;
+
+impl Counter for Looking {
+    ghost use Rattle.std.specs.Prelude.{true};
+
+    ghost may_begin = { true };
+}
 
 /// Counts over look-ups.
 #[derive(Clone, Copy)]
@@ -108,7 +118,7 @@ fn count_asked<S: Scratch>(
     ensures leaves { LeavesLineage S.state S.scratch_faults lineage.old scratch.old lineage.new
         scratch.new (IsErrOf result HostError.Fault) }
 {
-    let mut steps = Steps::new();
+    let mut steps = Steps::<Looking>::new();
     match ask(alloc, lineage, scratch, query, &mut steps) {
         Ok(answer) => Ok(LookupCount {
             entries: steps.count(),

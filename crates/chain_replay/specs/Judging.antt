@@ -56,6 +56,16 @@ abbrev pub placement_for : Compiler → Marking → Placer
 placement_for compile marking blocks block =
     placement_by_mark compile (is_marked_for marking block) blocks block
 
+-- The place of a block by what is kept of a chain, whatever blocks that stands for: the digests say
+-- which blocks are held, and the number of the rows whether there is room.
+abbrev pub place_kept : Marking → ChainState → Placer
+place_kept marking kept blocks block =
+    placement_kept (is_marked_for marking block) kept block (digest_of block)
+
+-- The judgement of bytes by what is kept of a chain, whatever blocks that stands for.
+abbrev pub judgement_kept : Marking → ChainState → Result Block ℕ → Result Taken Refusal
+judgement_kept marking kept = judgement_of (place_kept marking kept) []
+
 -- The blocks that taken bytes add to the chain: their own if it is the next one, else none.
 abbrev pub added_by : Taken → List Block
 added_by (Known block) = []

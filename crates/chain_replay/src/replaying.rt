@@ -27,7 +27,8 @@ ghost use Rattle.block_codec.specs.{
 ghost use Rattle.chain_exec.specs.Compiled.{compiled_in};
 ghost use Rattle.chain_replay.specs.{
   Chain.{ChainState, nothing_kept, placement_by_mark, placement_in, placement_kept, HasRoom, IsKnownFor, StandsFor},
-  Judging.{judgement_of, most_blocks_for, placement_for, IsJudged, IfNext, IsNextBlock},
+  Judging.{judgement_kept, judgement_of, most_blocks_for, placement_for},
+  Judging.{IsJudged, IfNext, IsNextBlock},
 };
 ghost use Rattle.lc_io.specs.Scratch.{ScratchState, Retains};
 
@@ -91,10 +92,12 @@ pub trait Replay: Drop {
     fn give_up(self);
 
     /// Judges bytes: decodes them and places the block that they spell; `marking` says which version
-    /// is next, and so how many blocks there may be.
+    /// is next, and so how many blocks there may be. What is kept decides, whatever blocks it stands
+    /// for.
     final fn judge(&self, alloc: Global, bytes: &[u8], marking: Marking) -> Result<Judged, Memory>
         requires few { length (kept self.now).digests ≤ most_blocks_for marking }
         ensures judged { IfOk result (λ answer. (blocks : List Blocks) → StandsFor (kept self.now) blocks → IsJudged answer (judgement_of (placement_for compiled_in marking) blocks (block_in bytes.now))) }
+        ensures kept { IfOk result (λ answer. IsJudged answer (judgement_kept marking (kept self.now) (block_in bytes.now))) }
         ensures next { IfOk result (λ answer. IfNext answer (IsNextBlock marking (kept self.now) bytes.now)) }
     {
         match decode(alloc, bytes) {

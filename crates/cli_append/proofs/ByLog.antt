@@ -1,7 +1,7 @@
 -- What `append` leaves of the log by itself, with rows not counted, whatever the scratch device
 -- returns.
 use Rattle.std.proofs.Common.{◌≡◌, inl, inr, ℕ, Bool, true, false, List, [], ◌∷◌, ◌++◌, refl, sym}
-use Rattle.std.proofs.Common.{◌∙◌, ap, arith, append_assoc, append-nil}
+use Rattle.std.proofs.Common.{◌∙◌, ap, arith, append_assoc}
 use Rattle.std.specs.Prelude.{Option, Some, Result, Ok, Err, MatchBool}
 use Rattle.lc_io.specs.Disk.{DiskState, Stays}
 use Rattle.disk_model.specs.Disk.{IsImage, Keeps, Rests, content_of, settled_disk}

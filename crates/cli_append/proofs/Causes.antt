@@ -1,5 +1,6 @@
 -- Counts of faults over two calls, one of which leaves a count as it was.
-use Rattle.std.proofs.Common.{◌≡◌, ℕ, sym, subst, arith}
+use Rattle.std.proofs.Common.{◌≡◌, inl, inr, ℕ, eqb, sym, ◌∙◌, subst, arith, true≢false}
+use Rattle.std.proofs.lemmas.Bool.{cases_Bool, eqb-true, eq-eqb}
 use Rattle.lc_base.specs.Faults.{HasCause}
 
 -- What the second call blames, both blame, if they blame for the same.
@@ -34,3 +35,10 @@ none_blamed before now B same never = record {
   failed = λ blames. absurd (never blames);
   told = λ differ. absurd (differ same);
 }
+
+-- A count that nobody is blamed for stays.
+pub unblamed : (before now : ℕ) (B : Type 0) → HasCause before now B → (B → ⊥) → now ≡ before
+unblamed before now B cause none = elim (cases_Bool (eqb now before)) [
+  | inl same ↦ eqb-true now before same
+  | inr differ ↦ absurd (none (cause.told (λ is. true≢false (sym (eq-eqb now before is) ∙ differ))))
+]

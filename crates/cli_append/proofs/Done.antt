@@ -12,6 +12,7 @@ use Rattle.cli_promises.specs.recovery.Node.{stored_placement}
 use Rattle.chain_replay.specs.Judging.{Taken, judgement_of}
 use Rattle.chain_replay.specs.Judging as judging
 use Rattle.chain_replay.specs.declared.refusal.Refusal.{Refusal}
+use Rattle.cli_promises.specs.Appending.{line_of}
 use Rattle.cli_promises.specs.Promises.{Line}
 use Rattle.cli_promises.proofs.Sure.{IsSure, AreSure, all_sure_more}
 use Rattle.cli_append.proofs.Promised.{line_sure}
@@ -21,7 +22,7 @@ use Rattle.follower_steps.specs.declared.waiting.Arrival.TheVariants as arrivals
 use Rattle.follower_steps.specs.Steps.{PlacerByMark, State, Step, judged, decided}
 use Rattle.follower_steps.specs.Steps.{arrived, arrival_in, first_turn, further_turn}
 use Rattle.follower_steps.specs.Steps.{without, turn_at, position_of}
-use Rattle.cli_promises.specs.Following.{held_promise, turn_line, added_in, Followed, nothing_done}
+use Rattle.cli_promises.specs.Following.{turn_line, added_in, Followed, nothing_done}
 use Rattle.cli_promises.specs.Following.{after_step, after_any, after_more, after_all}
 use Rattle.cli_promises.specs.Following.{all_acknowledged, after_frame}
 use Rattle.cli_append.specs.FollowSteps.{chain_held}
@@ -137,12 +138,6 @@ grown_step : (state : State) (step : Step)
 grown_step state step blocks_are marked_is sure =
     record { blocks_are = blocks_are; marked_is = marked_is; sure = (sure, tt) }
 
--- a block that is held stays the one that is held
-held_sure : (logged : Logged) (number : ℕ) (found : Option Block)
-    → slice_get logged.blocks number ≡ found → IsSure logged (held_promise number found)
-held_sure logged number None is = tt
-held_sure logged number (Some block) is = is
-
 judged_grown : (state : State) (index : ℕ) (spelled : Result Block ℕ)
     (judgement : Result Taken Refusal)
     → judgement_of (stored_placement state.marked) state.blocks spelled ≡ judgement
@@ -152,7 +147,9 @@ judged_grown state index spelled (Ok (judging.Added block)) is =
     (line_sure (chain_held state) spelled (judging.Added block) is)
 judged_grown state index spelled (Ok (judging.Known block)) is =
     grown_step state (judged state index (Ok (judging.Known block))) (sym (append-nil state.blocks))
-    refl (held_sure (chain_held state) block.number (slice_get state.blocks block.number) refl)
+    refl (subst (λ (b : List Block). IsSure (chain_with b state.marked)
+    (line_of compiled_in state.blocks (judging.Known block)).promise) (append-nil state.blocks)
+    (line_sure (chain_held state) spelled (judging.Known block) is))
 judged_grown state index spelled (Err refusal) is =
     grown_step state (judged state index (Err refusal)) (sym (append-nil state.blocks)) refl tt
 

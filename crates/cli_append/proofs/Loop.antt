@@ -25,7 +25,7 @@ use Rattle.chain_input.specs.declared.cause.Cause.TheVariants as causes
 use Rattle.cli_promises.specs.recovery.Node.{NodeState, IsNodeOf, IsStepOf, next_in_chain, chain_in}
 use Rattle.cli_promises.specs.recovery.Node.{stored_placement, logged_in}
 use Rattle.cli_promises.specs.Promises.{Line, plain, IsPartly, Telling}
-use Rattle.cli_promises.proofs.Tellings.{join, longer, still}
+use Rattle.cli_promises.proofs.Tellings.{join, longer, none_to_tell, still}
 use Rattle.cli_promises.proofs.Sure.{all_sure_kept, partly_more, partly_held}
 use Rattle.cli_promises.specs.Appending.{IsKnown, line_of, lines_of, end_lines, fold_lines}
 use Rattle.cli_promises.specs.Appending.{fold_end}
@@ -219,25 +219,76 @@ module _ {D : Type 0} (now : D → ℕ) (disk : D → ℕ → Option DiskState)
       }
       at_end (Err stop) is = tt
 
-  -- the input has ended
-  pub whole_input : (old new : D) (node : NodeState) (count : ℕ) (left_old left_mid left : Option
-      (List ℕ)) (first : Logged) (input : List ℕ) → Progress old new node count left_old left_mid
+  same_rests : (mid new : D) (P : List ℕ → Type 0) → Rests (disk mid (now mid)) P
+      → Stays now disk mid new → Rests (disk new (now new)) P
+  same_rests mid new P rests stays =
+      subst (λ (o : Option DiskState). Rests o P) (sym stays.last) rests
+
+  -- the fold ends here, and its last line is printed, if it has one
+  ended_at : (old mid new : D) (node : NodeState) (count : ℕ) (left_old left_mid left : Option
+      (List ℕ)) (first : Logged) (end : FoldEnd) (input : List ℕ) (result : Result RunEnd RunStop)
+      → (p : Progress old mid node count left_old left_mid first) → count ≤ MAX_FRAMES
+      → (l : Leads input left_mid count first p.blocks p.taken)
+      → FoldEnds (stored_placement first.marked) count p.blocks l.rest left end
+      → (IsKnown (disk mid (now mid)) → Keeps now disk mid new
+      (λ image. chain_in image ≡ Some (held first p.blocks))) → (IsKnown (disk mid (now mid))
+      → Telling next_in_chain now disk told mid new (end_lines end) (is_ok result))
+      → IfOk result (λ answer. fold_end answer ≡ end) → Rests (disk new (now new))
+      (λ image. chain_in image ≡ Some (held first p.blocks))
+      → (is_ok result ≡ true → Stays now disk mid new)
+      → AppendsAll now disk told old new left first (fold_all first input) result
+  ended_at old mid new node count left_old left_mid left first end input result p bound l s images
+      telling end_is rests stays =
+      let lines : List Line = lines_of compiled_in first.blocks p.taken in
+      let P : List ℕ → Type 0 = λ image. chain_in image ≡ Some (held first p.blocks) in
+      let Q : List ℕ → Type 0 = IsPartly next_in_chain first (added_by_all p.taken) in
+      let still_is = λ (is_told : IsKnown (disk old (now old))). still_known now disk told old mid Q
+      (p.stored.images is_told) is_told in
+      subst (λ (f : Fold). AppendsAll now disk told old new left first f result)
+      (ends_same old mid node count left_old left_mid left first end input p bound l s)
+      (all_of old new left first p.blocks p.taken end s.after_it result
+      (λ is_told. then_keeps now disk old mid new Q (p.stored.images is_told)
+      (weaker now disk mid new P Q (images (still_is is_told))
+      (λ image at. subst (λ (a : List Block). IsPartly next_in_chain first a image)
+      (append-nil (added_by_all p.taken)) (partly_held next_in_chain first
+      (added_by_all p.taken) [] (held first p.blocks) image
+      (ap (held first) p.stored.blocks_are) at))))
+      p.stored.blocks_are
+      (λ is_told. join next_in_chain now disk told old mid new P lines
+      (end_lines end) (is_ok result) (p.stored.telling is_told)
+      (images (still_is is_told))
+      (λ image at. all_sure_kept next_in_chain (held first p.blocks) [] lines image p.stored.sure
+      (at ∙ ap Some (sym (with_none (held first p.blocks))))) (telling (still_is is_told)))
+      end_is s.left_is rests
+      (λ ok none. stays_on now disk old mid new (p.stored.unwritten none) (stays ok)))
+
+  whole_end : (result : Result RunEnd RunStop) → IfOk result (λ answer. answer ≡ ends.Whole)
+      → IfOk result (λ answer. fold_end answer ≡ Whole)
+  whole_end (Ok answer) is = ap fold_end is
+  whole_end (Err stop) is = tt
+
+  -- the input has ended, and the disk is looked at
+  pub whole_input : (old mid new : D) (node : NodeState) (count : ℕ) (left_old left_mid left : Option
+      (List ℕ)) (first : Logged) (input : List ℕ) (result : Result RunEnd RunStop)
+      → Progress old mid node count left_old left_mid
       first → count ≤ MAX_FRAMES → left_old ≡ Some input
-      → IfSome left_mid (λ input. IsFrameAnswer count input (Ok None) left) → AppendsAll now disk
-      told old new left first (fold_all first input) (Ok ends.Whole)
-  whole_input old new node count left_old left_mid left first input p bound is answer =
+      → IfSome left_mid (λ input. IsFrameAnswer count input (Ok None) left)
+      → Stays now disk mid new → told new ≡ told mid
+      → IfOk result (λ answer. answer ≡ ends.Whole) → AppendsAll now disk
+      told old new left first (fold_all first input) result
+  whole_input old mid new node count left_old left_mid left first input result p bound is answer
+      stays same end =
       let l = p.leads input is in
       let s = whole_ends (stored_placement first.marked) count p.blocks left_mid left l.rest
       l.left_is answer in
-      subst (λ (f : Fold). AppendsAll now disk told old new left first f (Ok ends.Whole))
-      (ends_same old new node count left_old left_mid left first Whole input p bound l s)
-      (all_of old new left first p.blocks p.taken Whole s.after_it (Ok ends.Whole) p.stored.images
-      p.stored.blocks_are
-      (λ is_told. subst (λ (ls : List Line). Telling next_in_chain now disk told old new ls true)
-      (sym (append-nil (lines_of compiled_in first.blocks p.taken))) (p.stored.telling is_told))
-      refl s.left_is
-      (stands_at node.log (held first p.blocks) (disk new (now new)) p.stored.mark_is
-      p.stored.is_node.log) (λ ok. p.stored.unwritten))
+      let P : List ℕ → Type 0 = λ image. chain_in image ≡ Some (held first p.blocks) in
+      let rests = stands_at node.log (held first p.blocks) (disk mid (now mid)) p.stored.mark_is
+      p.stored.is_node.log in
+      ended_at old mid new node count left_old left_mid left first Whole input result p bound l s
+      (λ is_told. still next_in_chain now disk told mid new P (rests_each (disk mid (now mid)) P
+      rests) stays)
+      (λ is_told. none_to_tell next_in_chain now disk told mid new (is_ok result) same)
+      (whole_end result end) (same_rests mid new P rests stays) (λ ok. stays)
 
   refused_end : (frame count : ℕ) (cause : Cause) (result : Result RunEnd RunStop)
       → frame ≡ count → IfOk result (λ answer. answer ≡ ends.Refused frame cause)
@@ -264,37 +315,11 @@ module _ {D : Type 0} (now : D → ℕ) (disk : D → ℕ → Option DiskState)
       → AppendsAll now disk told old new left first (fold_all first input) result
   refused_at old mid new node count frame left_old left_mid left first input cause result p bound
       number l s images line end rests stays =
-      let lines : List Line = lines_of compiled_in first.blocks p.taken in
-      let told_line = λ (is_told : IsKnown (disk mid (now mid))). subst
-      (λ (n : ℕ). Telling next_in_chain now disk told mid new (plain (refused_line n cause)
-      ∷ []) (is_ok result)) number (line is_told) in
-      let P : List ℕ → Type 0 = λ image. chain_in image ≡ Some (held first p.blocks) in
-      let Q : List ℕ → Type 0 = IsPartly next_in_chain first (added_by_all p.taken) in
-      let still_is = λ (is_told : IsKnown (disk old (now old))). still_known now disk told old mid Q
-      (p.stored.images is_told) is_told in
-      subst (λ (f : Fold). AppendsAll now disk told old new left first f result)
-      (ends_same old mid node count left_old left_mid left first (Refused count cause) input p
-      bound l s)
-      (all_of old new left first p.blocks p.taken (Refused count cause) s.after_it result
-      (λ is_told. then_keeps now disk old mid new Q (p.stored.images is_told)
-      (weaker now disk mid new P Q (images (still_is is_told))
-      (λ image at. subst (λ (a : List Block). IsPartly next_in_chain first a image)
-      (append-nil (added_by_all p.taken)) (partly_held next_in_chain first
-      (added_by_all p.taken) [] (held first p.blocks) image
-      (ap (held first) p.stored.blocks_are) at))))
-      p.stored.blocks_are
-      (λ is_told. join next_in_chain now disk told old mid new P lines
-      (plain (refused_line count cause) ∷ []) (is_ok result) (p.stored.telling is_told)
-      (images (still_is is_told))
-      (λ image at. all_sure_kept next_in_chain (held first p.blocks) [] lines image p.stored.sure
-      (at ∙ ap Some (sym (with_none (held first p.blocks))))) (told_line (still_is is_told)))
-      (refused_end frame count cause result number end) s.left_is rests
-      (λ ok none. stays_on now disk old mid new (p.stored.unwritten none) (stays ok)))
-
-  same_rests : (mid new : D) (P : List ℕ → Type 0) → Rests (disk mid (now mid)) P
-      → Stays now disk mid new → Rests (disk new (now new)) P
-  same_rests mid new P rests stays =
-      subst (λ (o : Option DiskState). Rests o P) (sym stays.last) rests
+      ended_at old mid new node count left_old left_mid left first (Refused count cause) input
+      result p bound l s images
+      (λ is_told. subst (λ (n : ℕ). Telling next_in_chain now disk told mid new
+      (plain (refused_line n cause) ∷ []) (is_ok result)) number (line is_told))
+      (refused_end frame count cause result number end) rests stays
 
   -- the form of the frame is refused
   pub refused_form : (old mid new : D) (node : NodeState) (count frame : ℕ)

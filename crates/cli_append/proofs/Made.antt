@@ -31,7 +31,8 @@ use Rattle.follower_steps.proofs.Turns.{fewer_at}
 use Rattle.cli_promises.specs.Following.{turn_line, added_in, Followed, nothing_done, after_step}
 use Rattle.cli_promises.specs.Following.{after_any, after_more, after_all}
 use Rattle.cli_append.specs.FollowSteps.{turn_text}
-use Rattle.cli_append.specs.FollowSteps.{chain_held, Follows, TellsTurn}
+use Rattle.cli_append.specs.Steps.{TellsLine}
+use Rattle.cli_append.specs.FollowSteps.{chain_held, Follows}
 use Rattle.cli_append.proofs.Done.{Grown, chain_grown}
 use Rattle.cli_append.proofs.Joined.{chain_rests, none_follows}
 
@@ -43,7 +44,7 @@ turn_said : (blocks : List Block) (turned : Turned) (turn : Turn) → IsTurn blo
 turn_said blocks turned (turns.Block number rows receipts root)
     (block, is, number_is, rows_is, receipts_are, root_is) =
     rw (is, number_is, rows_is, receipts_are, root_is) refl
-turn_said blocks turned (turns.Known number) is = rw is refl
+turn_said blocks turned (turns.Known number) (block, is, number_is) = rw (is, number_is) refl
 turn_said blocks turned (turns.Kept number) is = rw is refl
 turn_said blocks turned (turns.Dropped index cause) is = rw is refl
 
@@ -163,7 +164,7 @@ module _ {D : Type 0} (now : D → ℕ) (disk : D → ℕ → Option DiskState)
       → (IsKnown (disk old (now old)) → Keeps now disk old mid (IsTurnImage state step.state))
       → told mid ≡ told old → (adds turn ≡ false → mid ≡ old)
       → IsTurn state.blocks step.turned turn → IsFollowerOf next (disk mid (now mid)) step.state
-      → TellsTurn now disk told disk_faults wire_faults mid new (turn_text turn) result
+      → TellsLine now disk told disk_faults wire_faults mid new (turn_text turn) result
       → Follows now disk told old new state (after_step compiled_in (nothing_done state) step)
       (λ f. f) (told_by next result)
   turn_follows disk_faults wire_faults old mid new state step turn next result grown images same
@@ -180,7 +181,7 @@ module _ {D : Type 0} (now : D → ℕ) (disk : D → ℕ → Option DiskState)
             (weaker now disk old mid (IsTurnImage state step.state) Q (images is_told)
             (λ image at. turn_partly state (Some step) image grown at))
             (weaker now disk mid new P Q
-            (still next_in_chain now disk told mid new P rests tells.leaves.stays)
+            (still next_in_chain now disk told mid new P rests tells.stays)
             (λ image at. turn_partly state (Some step) image grown (inr at)));
         lines = λ is_told. subst (Telling next_in_chain now disk told old new (line ∷ []))
             (told_whole next result)
@@ -190,10 +191,10 @@ module _ {D : Type 0} (now : D → ℕ) (disk : D → ℕ → Option DiskState)
             (turn_said state.blocks step.turned turn is_turn)
             (tells.lines next_in_chain line.promise here)));
         unwritten = λ ok none. subst (λ (m : D). Stays now disk m new)
-            (untouched (none_added state.blocks step.turned turn is_turn none)) tells.leaves.stays;
+            (untouched (none_added state.blocks step.turned turn is_turn none)) tells.stays;
         answer = if_told next (λ f. IsFollowerOf f (disk new (now new)) step.state) result
             (subst (λ (o : Option DiskState). IsFollowerOf next o step.state)
-            (sym tells.leaves.stays.last) is_next);
+            (sym tells.stays.last) is_next);
       }
 
   -- the same, if a turn was to be made
@@ -205,7 +206,7 @@ module _ {D : Type 0} (now : D → ℕ) (disk : D → ℕ → Option DiskState)
       (IsTurnImage state (state_after state step)))
       → told mid ≡ told old → (adds turn ≡ false → mid ≡ old)
       → HasMadeAny (disk mid (now mid)) state step (Ok (next, Some turn))
-      → TellsTurn now disk told disk_faults wire_faults mid new (turn_text turn) result
+      → TellsLine now disk told disk_faults wire_faults mid new (turn_text turn) result
       → Follows now disk told old new state (after_any compiled_in (nothing_done state) step)
       (λ f. f) (told_by next result)
   any_follows disk_faults wire_faults old mid new state None turn next result grown images same

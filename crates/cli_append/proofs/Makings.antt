@@ -1,29 +1,24 @@
 -- What the turns of a delivery do, whatever is known of the devices.
-use Rattle.std.proofs.Common.{◌≡◌, inl, inr, ℕ, Bool, true, false, List, [], ◌∷◌, length, refl, sym}
-use Rattle.std.proofs.Common.{◌∙◌, ap, subst, eqb, true≢false}
-use Rattle.std.proofs.lemmas.Bool.{cases_Bool, eqb-true, eq-eqb}
+use Rattle.std.proofs.Common.{◌≡◌, ℕ, true, false, List, length, refl, sym}
+use Rattle.std.proofs.Common.{◌∙◌, ap, subst}
 use Rattle.std.specs.Prelude.{Option, Some, None, is_some, Result, Ok, Err, IsErrOf}
 use Rattle.lc_base.specs.Faults.{HasCause}
 use Rattle.lc_io.specs.Disk.{DiskState}
 use Rattle.lc_io.specs.Outside.{Tell}
 use Rattle.disk_model.specs.Disk.{Keeps, Rests, content_of}
-use Rattle.disk_model.specs.Leaving.{LeavesDisk, LeavesWire}
+use Rattle.disk_model.specs.Leaving.{LeavesWire}
 use Rattle.disk_model.proofs.Calls.{stay_keeps}
-use Rattle.disk_model.proofs.Moments.{stays_here}
 use Rattle.lc_io.specs.Scratch.{ScratchState, is_known, Serves}
 use Rattle.lc_io.proofs.Retaining.{retains_refl, retains_trans}
 use Rattle.block_codec.specs.Reading.{block_in}
-use Rattle.block_log.specs.Standing.{NextBlock}
 use Rattle.block_log.specs.Log.{LogState, Agrees, next_in_log}
 use Rattle.chain_exec.specs.Compiled.{compiled_in}
 use Rattle.cli_promises.specs.recovery.Node.{IsReady, stored_placement}
-use Rattle.cli_promises.specs.Promises.{Promise, IsKeptAt, Telling}
-use Rattle.cli_promises.proofs.Tellings.{none_told}
 use Rattle.cli_promises.specs.Appending.{IsKnown, Grows}
 use Rattle.cli_promises.specs.declared.ending.RunStop.{RunStop}
 use Rattle.cli_promises.specs.declared.ending.RunStop.TheVariants as stops
 use Rattle.cli_append.proofs.ByLog.{log_begun, log_taken, log_more}
-use Rattle.cli_append.proofs.Causes.{carried, kept}
+use Rattle.cli_append.proofs.Causes.{carried, kept, unblamed}
 use Rattle.cli_append.proofs.Frames.{content_known}
 use Rattle.cli_append.proofs.Upgraded.{none_blamed}
 use Rattle.follow_core.specs.Follower.{FollowerState, IsFollowerOf, IsTurnImage, HasMadeAny}
@@ -39,7 +34,8 @@ use Rattle.follow_core.proofs.Drained.{none_further}
 use Rattle.cli_promises.specs.Following.{Followed, nothing_done, after_step, after_any}
 use Rattle.cli_promises.specs.Following.{after_all, all_acknowledged, after_frame}
 use Rattle.cli_append.specs.FollowSteps.{turn_text}
-use Rattle.cli_append.specs.FollowSteps.{Follows, Makes, TellsTurn, stop_of}
+use Rattle.cli_append.specs.Steps.{TellsLine}
+use Rattle.cli_append.specs.FollowSteps.{Follows, Makes, stop_of}
 use Rattle.cli_append.proofs.Done.{Grown, more_done, after_any_from, after_all_from, grown_none}
 use Rattle.cli_append.proofs.Done.{grown_more, grown_first, grown_any}
 use Rattle.cli_append.proofs.Joined.{then_follows, stop_follows, none_follows, not_followed}
@@ -52,13 +48,6 @@ not_some None is = refl
 not_some (Some at) is = absurd (cc is)
 
 -- ---- who is blamed
-
--- a count that nobody is blamed for stays
-unblamed : (before now : ℕ) (B : Type 0) → HasCause before now B → (B → ⊥) → now ≡ before
-unblamed before now B cause none = elim (cases_Bool (eqb now before)) [
-  | inl same ↦ eqb-true now before same
-  | inr differ ↦ absurd (none (cause.told (λ is. true≢false (sym (eq-eqb now before is) ∙ differ))))
-]
 
 disk_stop : (fault : FollowFault) → stop_of fault ≡ stops.DiskFault → fault ≡ faults.DiskFault
 disk_stop faults.DiskFault is = refl
@@ -88,68 +77,6 @@ same_fault : {T : Type 0} (fault wanted : FollowFault) (stop : RunStop)
 same_fault fault wanted stop is same =
     let one : fault ≡ wanted = cc same in
     ap Err (ap stop_of one ∙ is)
-
--- ---- the line of a turn
-
-module _ {D : Type 0} (now : D → ℕ) (disk : D → ℕ → Option DiskState)
-    (told : D → Option (List Tell)) (disk_faults wire_faults : D → ℕ) where
-  -- a line of the same text
-  tells_text : (old new : D) (bytes text : List ℕ) (all : Bool) → bytes ≡ text
-      → ((next : NextBlock) (promise : Promise) → IsKeptAt next now disk old promise
-      → Telling next now disk told old new (record { text = bytes; promise = promise } ∷ []) all)
-      → (next : NextBlock) (promise : Promise) → IsKeptAt next now disk old promise
-      → Telling next now disk told old new (record { text = text; promise = promise } ∷ []) all
-  tells_text old new bytes text all is lines next promise here =
-      subst (λ (b : List ℕ). Telling next now disk told old new
-      (record { text = b; promise = promise } ∷ []) all) is (lines next promise here)
-
-  -- it was printed
-  pub tells_whole : {B : Type 0} (old new : D) (bytes text : List ℕ) → bytes ≡ text
-      → ((next : NextBlock) (promise : Promise) → IsKeptAt next now disk old promise
-      → Telling next now disk told old new (record { text = bytes; promise = promise } ∷ []) true)
-      → LeavesDisk now disk disk_faults old new → HasCause (wire_faults old) (wire_faults new) B
-      → (B → ⊥) → TellsTurn now disk told disk_faults wire_faults old new text (Ok tt)
-  tells_whole {B} old new bytes text is lines left cause none = record {
-    lines = tells_text old new bytes text true is lines;
-    leaves = left;
-    untold = none_blamed (wire_faults old) (wire_faults new)
-        (IsErrOf {T = Unit {0}} (Ok tt) stops.Untold)
-        (unblamed (wire_faults old) (wire_faults new) B cause none) (λ b. absurd (cc b));
-    reads = λ b. absurd (cc b);
-    writes = λ b. absurd (cc b);
-    keeps = λ b. absurd (cc b);
-  }
-
-  -- it was printed in part, or not at all
-  pub tells_part : {B : Type 0} (old new : D) (bytes text : List ℕ) → bytes ≡ text
-      → ((next : NextBlock) (promise : Promise) → IsKeptAt next now disk old promise
-      → Telling next now disk told old new (record { text = bytes; promise = promise } ∷ []) false)
-      → LeavesDisk now disk disk_faults old new → HasCause (wire_faults old) (wire_faults new) B
-      → B → TellsTurn now disk told disk_faults wire_faults old new text (Err stops.Untold)
-  tells_part {B} old new bytes text is lines left cause blamed = record {
-    lines = tells_text old new bytes text false is lines;
-    leaves = left;
-    untold = kept (wire_faults old) (wire_faults new) (wire_faults new) B
-        (IsErrOf {T = Unit {0}} (Err stops.Untold) stops.Untold) refl cause (λ b. refl)
-        (λ b. blamed);
-    reads = λ b. absurd (cc b);
-    writes = λ b. absurd (cc b);
-    keeps = λ b. absurd (cc b);
-  }
-
-  -- memory ran out before
-  pub tells_none : (old : D) (text : List ℕ)
-      → TellsTurn now disk told disk_faults wire_faults old old text (Err stops.Memory)
-  tells_none old text = record {
-    lines = λ next promise here. none_told next now disk told old old
-        (record { text = text; promise = promise } ∷ []) refl;
-    leaves = record { stays = stays_here now disk old; faults = refl };
-    untold = none_blamed (wire_faults old) (wire_faults old)
-        (IsErrOf {T = Unit {0}} (Err stops.Memory) stops.Untold) refl (λ b. absurd (cc b));
-    reads = λ b. absurd (cc b);
-    writes = λ b. absurd (cc b);
-    keeps = λ b. absurd (cc b);
-  }
 
 module _ {D S : Type 0} (now : D → ℕ) (disk : D → ℕ → Option DiskState)
     (told : D → Option (List Tell)) (disk_faults wire_faults : D → ℕ) (scratch : S → ScratchState)
@@ -193,7 +120,7 @@ module _ {D S : Type 0} (now : D → ℕ) (disk : D → ℕ → Option DiskState
           → (adds turn ≡ false → mid ≡ old)
           → HasCause (disk_faults old) (disk_faults mid) A → (A → ⊥)
           → Serves scratch scratch_faults before after B → (B → ⊥)
-          → TellsTurn now disk told disk_faults wire_faults mid new (turn_text turn) result
+          → TellsLine now disk told disk_faults wire_faults mid new (turn_text turn) result
           → Does (old, before) follower (any_from step_in) (new, after) (told_by next result)
       told_makes {A} {B} new next turn result answer ready untouched cause none serves none_there
           tells = record {
@@ -203,15 +130,16 @@ module _ {D S : Type 0} (now : D → ℕ) (disk : D → ℕ → Option DiskState
                 (λ content there. images known state content is there)) wire.told untouched
                 (answer known state is) tells;
             log_goes_on = λ content there. stay_keeps now disk old mid new
-                (Grows next_in_log content) (log content there) tells.leaves.stays;
+                (Grows next_in_log content) (log content there) tells.stays;
             ready = if_told next (λ f. IsReady f.node (disk new (now new)) (scratch after)) result
                 (subst (λ (o : Option DiskState). IsReady next.node o (scratch after))
-                (sym tells.leaves.stays.last) ready);
+                (sym tells.stays.last) ready);
             retains = serves.retains;
-            disk_fault = kept (disk_faults old) (disk_faults mid) (disk_faults new) A
-                (IsErrOf (told_by next result) stops.DiskFault) tells.leaves.faults cause
-                (λ b. absurd (none b))
-                (λ b. absurd (tells.writes (blames_told next result stops.DiskFault b)));
+            disk_fault = carried (disk_faults old) (disk_faults mid) (disk_faults new)
+                (IsErrOf result stops.DiskFault) (IsErrOf (told_by next result) stops.DiskFault)
+                (unblamed (disk_faults old) (disk_faults mid) A cause none) tells.disk_fault
+                (told_blames next result stops.DiskFault)
+                (blames_told next result stops.DiskFault);
             scratch_fault = kept (scratch_faults before) (scratch_faults after)
                 (scratch_faults after) B (IsErrOf (told_by next result) stops.ScratchFault) refl
                 serves.cause (λ b. absurd (none_there b))

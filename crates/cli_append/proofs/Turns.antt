@@ -185,19 +185,20 @@ module _ {D S : Type 0} (now : D → ℕ) (disk : D → ℕ → Option DiskState
       module _ (known : is_known (scratch first.taker.1) ≡ true) (blocks : List Block)
           (input : List ℕ) (is : IsNodeOf first.chain (disk first.taker.0 (now first.taker.0)) blocks)
           (left_is : first.left ≡ Some input) where
-        -- the input has ended
-        pub all_appended : (chain : NodeState)
+        -- the input has ended, and the disk is looked at
+        pub all_appended : (chain : NodeState) (new : D) (result : Result RunEnd RunStop)
             → TakesInput rule first left taker (Ok (inputs.Whole chain))
-            → AppendsAll now disk told first.taker.0 taker.0 left (logged_in first.chain.log blocks)
-            (fold_all (logged_in first.chain.log blocks) input) (Ok ends.Whole)
-        all_appended chain takes =
+            → Stays now disk taker.0 new → told new ≡ told taker.0
+            → IfOk result (λ answer. answer ≡ ends.Whole)
+            → AppendsAll now disk told first.taker.0 new left (logged_in first.chain.log blocks)
+            (fold_all (logged_in first.chain.log blocks) input) result
+        all_appended chain new result takes stays same end =
             let s = stands (Ok (inputs.Whole chain)) takes in
-            subst (λ (t : D × S). AppendsAll now disk told first.taker.0 t.0 left
-            (logged_in first.chain.log blocks) (fold_all (logged_in first.chain.log blocks) input)
-            (Ok ends.Whole)) (sym takes.end.1)
-            (whole_input now disk told first.taker.0 takes.last.taker.0 takes.last.chain takes.count
-            first.left takes.last.left left (logged_in first.chain.log blocks) input
-            (s.taken known blocks is) takes.bound left_is takes.end.0)
+            whole_input now disk told first.taker.0 takes.last.taker.0 new takes.last.chain
+            takes.count first.left takes.last.left left (logged_in first.chain.log blocks) input
+            result (s.taken known blocks is) takes.bound left_is takes.end.0
+            (subst (λ (t : D × S). Stays now disk t.0 new) takes.end.1 stays)
+            (subst (λ (t : D × S). told new ≡ told t.0) takes.end.1 same) end
 
         -- reading failed, or memory ran out before the frame
         pub unread : (result : Result (InputEnd NodeState) (InputStop RunStop)) (stop : RunStop)

@@ -1,19 +1,18 @@
 -- What the parts of `follow` do, by the definition of what it prints.
-use Rattle.std.specs.Prelude.{◌≡◌, ℕ, true, ◌+◌, ◌-◌, ◌^◌, ◌<◌, List, [], ◌∷◌, Option, Some}
+use Rattle.std.specs.Prelude.{◌≡◌, ℕ, true, ◌+◌, ◌-◌, ◌^◌, ◌<◌, List, [], Option, Some}
 use Rattle.std.specs.Prelude.{Result, Ok, Err, IfOk, is_ok, IsErrOf}
 use Rattle.lc_base.specs.Faults.{HasCause}
 use Rattle.lc_io.specs.Disk.{DiskState, Stays}
 use Rattle.lc_io.specs.Outside.{Tell}
 use Rattle.disk_model.specs.Disk.{Keeps, content_of}
-use Rattle.disk_model.specs.Leaving.{LeavesDisk}
-use Rattle.block_log.specs.Standing.{Logged, NextBlock}
+use Rattle.block_log.specs.Standing.{Logged}
 use Rattle.block_log.specs.Log.{next_in_log}
 use Rattle.lc_io.specs.Scratch.{ScratchState, is_known, Retains}
 use Rattle.chain_exec.specs.Compiled.{compiled_in}
 use Rattle.chain_input.specs.declared.taking.Turn.{Turn as FrameTurn}
 use Rattle.chain_input.specs.declared.taking.Turn.TheVariants as frame_turns
 use Rattle.cli_promises.specs.recovery.Node.{IsReady, next_in_chain, stored_placement}
-use Rattle.cli_promises.specs.Promises.{Promise, IsKeptAt, Telling, IsPartly}
+use Rattle.cli_promises.specs.Promises.{Telling, IsPartly}
 use Rattle.cli_promises.specs.Appending.{IsKnown, Grows}
 use Rattle.cli_promises.specs.declared.ending.RunStop.{RunStop}
 use Rattle.cli_promises.specs.declared.ending.RunStop.TheVariants as stops
@@ -79,20 +78,6 @@ pub record Makes {D S : Type 0} (now : D → ℕ) (disk : D → ℕ → Option D
       (IsErrOf result stops.ScratchFault)
   pub untold : HasCause (wire_faults old.0) (wire_faults new.0) (IsErrOf result stops.Untold)
   pub reads : IsErrOf result stops.Unreadable → ⊥
-
--- What printing the line of a turn does.
-pub record TellsTurn {D : Type 0} (now : D → ℕ) (disk : D → ℕ → Option DiskState)
-    (told : D → Option (List Tell)) (disk_faults wire_faults : D → ℕ) (old new : D)
-    (text : List ℕ) (result : Result (Unit {0}) RunStop) : Type 0 where
-  pub lines : (next : NextBlock) (promise : Promise) → IsKeptAt next now disk old promise
-      → Telling next now disk told old new (record { text = text; promise = promise } ∷ [])
-      (is_ok result)
-  pub leaves : LeavesDisk now disk disk_faults old new
-  -- The wire is blamed exactly if it failed, and nothing else is blamed.
-  pub untold : HasCause (wire_faults old) (wire_faults new) (IsErrOf result stops.Untold)
-  pub reads : IsErrOf result stops.Unreadable → ⊥
-  pub writes : IsErrOf result stops.DiskFault → ⊥
-  pub keeps : IsErrOf result stops.ScratchFault → ⊥
 
 -- Why a command stops, by why a follower was discarded.
 abbrev pub stop_of : FollowFault → RunStop

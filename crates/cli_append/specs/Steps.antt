@@ -1,4 +1,5 @@
--- What the parts of `append` do, by the definition of what it prints.
+-- What printing a line does; and what the parts of `append` do, by the definition of what it
+-- prints.
 use Rattle.std.specs.Prelude.{◌≡◌, ℕ, true, List, [], ◌∷◌, ◌++◌, Option, Some, Result, Ok, Err}
 use Rattle.std.specs.Prelude.{is_ok, IsErrOf}
 use Rattle.lc_base.specs.Faults.{HasCause}
@@ -7,7 +8,7 @@ use Rattle.lc_io.specs.Outside.{Tell}
 use Rattle.disk_model.specs.Disk.{Keeps, Rests, content_of}
 use Rattle.block_codec.specs.Reading.{block_in}
 use Rattle.block_codec.specs.declared.block.Block.{Block}
-use Rattle.block_log.specs.Standing.{Logged}
+use Rattle.block_log.specs.Standing.{Logged, NextBlock}
 use Rattle.block_log.specs.Log.{next_in_log}
 use Rattle.lc_io.specs.Scratch.{ScratchState, is_known, Retains}
 use Rattle.chain_input.specs.declared.taking.Turn.{Turn}
@@ -18,12 +19,28 @@ use Rattle.chain_replay.specs.declared.refusal.Refusal.{Refusal}
 use Rattle.cli_promises.specs.recovery.Node.{NodeState, IsNodeOf, IsReady, IsStepOf, next_in_chain}
 use Rattle.cli_promises.specs.recovery.Node.{chain_in}
 use Rattle.cli_promises.specs.recovery.Node.{stored_placement, logged_in}
-use Rattle.cli_promises.specs.recovery.declared.node.Appended.{Appended}
-use Rattle.cli_promises.specs.recovery.declared.node.Appended.TheVariants as appendeds
-use Rattle.cli_promises.specs.Promises.{Line, Telling}
+use Rattle.cli_promises.specs.Promises.{Promise, Line, IsKeptAt, Telling}
 use Rattle.cli_promises.specs.Appending.{IsKnown, line_of, Grows}
 use Rattle.cli_promises.specs.declared.ending.RunStop.{RunStop}
 use Rattle.cli_promises.specs.declared.ending.RunStop.TheVariants as stops
+
+-- ---- one line
+
+-- What printing a line does. The disk stays as it is, and where it is looked at first and that
+-- fails, nothing is printed.
+pub record TellsLine {D : Type 0} (now : D → ℕ) (disk : D → ℕ → Option DiskState)
+    (told : D → Option (List Tell)) (disk_faults wire_faults : D → ℕ) (old new : D)
+    (text : List ℕ) (result : Result (Unit {0}) RunStop) : Type 0 where
+  -- If each image of the disk keeps now what the line promises, each image since then keeps it.
+  pub lines : (next : NextBlock) (promise : Promise) → IsKeptAt next now disk old promise
+      → Telling next now disk told old new (record { text = text; promise = promise } ∷ [])
+      (is_ok result)
+  pub stays : Stays now disk old new
+  -- The disk or the wire is blamed exactly if it failed, and nothing else is blamed.
+  pub disk_fault : HasCause (disk_faults old) (disk_faults new) (IsErrOf result stops.DiskFault)
+  pub untold : HasCause (wire_faults old) (wire_faults new) (IsErrOf result stops.Untold)
+  pub reads : IsErrOf result stops.Unreadable → ⊥
+  pub keeps : IsErrOf result stops.ScratchFault → ⊥
 
 -- ---- one frame
 

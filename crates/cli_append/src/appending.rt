@@ -18,7 +18,7 @@ ghost use Rattle.disk_model.specs.Disk.{Keeps, content_of};
 ghost use Rattle.cli_append.specs.Steps.{AppendsFrame};
 
 use crate::taking::Appender;
-use crate::telling::refuse;
+use crate::telling::{end_whole, refuse};
 use chain_input::{InputEnd, InputStop, take_frames};
 use cli_promises::{Node, RunEnd, RunStop};
 use disk_model::Disk;
@@ -105,7 +105,7 @@ pub fn append<I: Source, M: Disk + Wire, S: Scratch>(
     match take_all(alloc, source, machine, scratch, node) {
         Ok(InputEnd::Whole(longer)) => {
             longer.give_up();
-            Ok(RunEnd::Whole)
+            end_whole(machine)
         }
         Ok(InputEnd::Refused { frame, cause }) => refuse(alloc, machine, frame, cause),
         Err(InputStop::Fault) => Err(RunStop::Unreadable),

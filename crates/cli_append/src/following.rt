@@ -8,7 +8,7 @@ ghost use Rattle.block_codec.specs.declared.block.Block.{Block};
 ghost use Rattle.block_log.specs.{Log.{next_in_log}, Standing.{NextBlock}};
 ghost use Rattle.chain_exec.specs.Compiled.{compiled_in};
 ghost use Rattle.chain_input.specs.Taking.{TakesInput};
-ghost use Rattle.lc_io.specs.Scratch.{is_known, Retains};
+ghost use Rattle.lc_io.specs.{Disk.{Stays}, Scratch.{is_known, Retains}};
 ghost use Rattle.cli_promises.specs.{
   recovery.Node.{IsNodeOf, IsReady, logged_in, stored_placement},
   Promises.{plain, Telling},
@@ -16,40 +16,45 @@ ghost use Rattle.cli_promises.specs.{
   Following.{FollowsAll, follow_all},
   FollowLines.{follow_line as follow_text},
 };
-ghost use Rattle.disk_model.specs.{Disk.{Keeps, content_of}, Leaving.{LeavesDisk}};
+ghost use Rattle.disk_model.specs.Disk.{Keeps, content_of};
 ghost use Rattle.cli_append.specs.FollowSteps.{FollowsFrame};
 
 use crate::follow_lines::follow_line;
 use crate::follow_taking::{Deliverer, Following};
-use crate::telling::{refuse, tell_line};
+use crate::telling::{refuse, tell_held};
 use chain_input::{InputEnd, InputStop, take_frames};
 use cli_promises::{Node, RunEnd, RunStop};
 use disk_model::Disk;
 use follow_core::Follower;
 use lc_base::Memory;
-use lc_io::{Failed, Scratch, Source, Wire};
+use lc_io::{Scratch, Source, Wire};
 use std::alloc::Global;
 
 /// Prints the last line: how many blocks are held, and how many wait.
-fn tell_end<M: Wire>(alloc: Global, machine: &mut M, follower: Follower) -> Result<RunEnd, RunStop>
+fn tell_end<M: Disk + Wire>(
+    alloc: Global,
+    machine: &mut M,
+    follower: Follower,
+) -> Result<RunEnd, RunStop>
     ensures lines { (next : NextBlock) → Telling next M.now M.disk M.told machine.old machine.new
         (plain (follow_text (length follower.node.chain.digests) (length follower.waiting)) ∷ [])
         (is_ok result) }
     ensures end { IfOk result (λ end. end ≡ RunEnd.Whole) }
-    ensures disk { LeavesDisk M.now M.disk M.disk_faults machine.old machine.new }
+    ensures disk { Stays M.now M.disk machine.old machine.new }
+    ensures disk_fault { HasCause (M.disk_faults machine.old) (M.disk_faults machine.new)
+        (IsErrOf result RunStop.DiskFault) }
     ensures untold { HasCause (M.wire_faults machine.old) (M.wire_faults machine.new)
         (IsErrOf result RunStop.Untold) }
     ensures reads { IsErrOf result RunStop.Unreadable → ⊥ }
-    ensures writes { IsErrOf result RunStop.DiskFault → ⊥ }
     ensures keeps { IsErrOf result RunStop.ScratchFault → ⊥ }
 {
     let blocks = follower.node().blocks();
     let waiting = follower.waiting();
     follower.give_up();
     match follow_line(alloc, blocks, waiting) {
-        Ok(line) => match tell_line(machine, line.as_bytes()) {
+        Ok(line) => match tell_held(machine, line.as_bytes()) {
             Ok(()) => Ok(RunEnd::Whole),
-            Err(Failed) => Err(RunStop::Untold),
+            Err(stop) => Err(stop),
         },
         Err(Memory) => Err(RunStop::Memory),
     }

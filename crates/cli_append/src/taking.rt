@@ -13,21 +13,38 @@ ghost use Rattle.lc_io.specs.Scratch.{is_known, Retains};
 ghost use Rattle.cli_promises.specs.{
   recovery.Node.{IsNodeOf, IsReady, logged_in, stored_placement},
   Appending.{Grows},
+  Lines.{appended_text},
 };
-ghost use Rattle.cli_append.specs.Steps.{AppendsFrame, IfLonger, Takes};
+ghost use Rattle.cli_append.specs.Steps.{AppendsFrame, IfLonger, Takes, TellsLine};
 
-use crate::telling::tell_line;
+use crate::telling::tell_frame;
 use chain_input::{FrameTaker, Turn};
-use cli_promises::{AppendError, Node, RunStop, appended_line};
+use cli_promises::{AppendError, Appended, Node, RunStop, appended_line};
 use disk_model::Disk;
 use lc_base::Memory;
-use lc_io::{Failed, Scratch, Wire};
+use lc_io::{Scratch, Wire};
 use std::alloc::Global;
 
 /// Discards the node that an error returned, if any.
 fn give_up(back: Option<Node>) {
     if let Some(node) = back {
         node.give_up();
+    }
+}
+
+/// Prints the line of a frame that was taken.
+fn tell_appended<M: Disk + Wire>(
+    alloc: Global,
+    machine: &mut M,
+    appended: &Appended,
+) -> Result<(), RunStop>
+    ensures { TellsLine M.now M.disk M.told M.disk_faults M.wire_faults machine.old machine.new
+        (appended_text appended.now) result }
+{
+    let is_known = matches!(appended, Appended::Known { .. });
+    match appended_line(alloc, appended) {
+        Ok(line) => tell_frame(machine, line.as_bytes(), is_known),
+        Err(Memory) => Err(RunStop::Memory),
     }
 }
 
@@ -58,17 +75,11 @@ pub fn take_frame<M: Disk + Wire, S: Scratch>(
     ensures reads { IsErrOf result RunStop.Unreadable → ⊥ }
 {
     match node.append(alloc, machine, scratch, frame) {
-        Ok((longer, appended)) => match appended_line(alloc, &appended) {
-            Ok(line) => match tell_line(machine, line.as_bytes()) {
-                Ok(()) => Ok(Turn::Taken(longer)),
-                Err(Failed) => {
-                    longer.give_up();
-                    Err(RunStop::Untold)
-                }
-            },
-            Err(Memory) => {
+        Ok((longer, appended)) => match tell_appended(alloc, machine, &appended) {
+            Ok(()) => Ok(Turn::Taken(longer)),
+            Err(stop) => {
                 longer.give_up();
-                Err(RunStop::Memory)
+                Err(stop)
             }
         },
         Err((back, error)) => {

@@ -7,15 +7,18 @@ ghost use Rattle.cli_promises.specs.{
   Following.{after_all, after_step, nothing_done},
 };
 ghost use Rattle.follower_steps.specs.Steps.{first_turn};
-ghost use Rattle.cli_append.specs.FollowSteps.{turn_text, Delivers, Makes, TellsTurn, stop_of};
+ghost use Rattle.cli_append.specs.{
+  Steps.{TellsLine},
+  FollowSteps.{turn_text, Delivers, Makes, stop_of},
+};
 
 use crate::follow_lines::turn_line;
-use crate::telling::tell_line;
+use crate::telling::tell_frame;
 use cli_promises::RunStop;
 use disk_model::Disk;
 use follow_core::{FollowFault, Follower, Turn};
 use lc_base::{Bytes, Memory};
-use lc_io::{Failed, Scratch, Wire};
+use lc_io::{Scratch, Wire};
 use std::alloc::Global;
 
 /// Why the command stops, by why the follower was discarded.
@@ -30,15 +33,13 @@ fn stop_of(fault: FollowFault) -> RunStop
 }
 
 /// Prints the line of a turn that a follower made.
-fn tell_turn<M: Wire>(alloc: Global, machine: &mut M, turn: &Turn) -> Result<(), RunStop>
-    ensures { TellsTurn M.now M.disk M.told M.disk_faults M.wire_faults machine.old machine.new
+fn tell_turn<M: Disk + Wire>(alloc: Global, machine: &mut M, turn: &Turn) -> Result<(), RunStop>
+    ensures { TellsLine M.now M.disk M.told M.disk_faults M.wire_faults machine.old machine.new
         (turn_text turn.now) result }
 {
+    let is_known = matches!(turn, Turn::Known { .. });
     match turn_line(alloc, turn) {
-        Ok(line) => match tell_line(machine, line.as_bytes()) {
-            Ok(()) => Ok(()),
-            Err(Failed) => Err(RunStop::Untold),
-        },
+        Ok(line) => tell_frame(machine, line.as_bytes(), is_known),
         Err(Memory) => Err(RunStop::Memory),
     }
 }

@@ -193,7 +193,8 @@ pub record IsMadeWhole (compile : Compiler) (blocks : List Block) (input : List 
         answer = replayed_answer compile blocks block query;
       }))
 
--- So are those of all blocks.
+-- Over any blocks `light make` prints their light file; by it each proof that is made of them, if
+-- they are a chain, is accepted with the replay's answer.
 abbrev pub MadeLightFilesAreWhole : Type 0
 MadeLightFilesAreWhole =
     (compile : Compiler) (blocks : List Block) (input : List ℕ) → IsMadeWhole compile blocks input

@@ -1,6 +1,5 @@
 -- Laws of `follow`: what its fold says of deliveries, of held blocks and of a leader's chain.
-use Rattle.std.specs.Prelude.{◌≡◌, ℕ, ◌+◌, true, List, [], ◌∷◌, ◌++◌, Some, slice_get}
-use Rattle.std.specs.Option.{is_some}
+use Rattle.std.specs.Prelude.{◌≡◌, ℕ, ◌+◌, List, [], ◌∷◌, ◌++◌, Some, slice_get}
 use Rattle.std.specs.List.{All}
 use Rattle.block_codec.specs.Frames.{Frame, frame_step}
 use Rattle.block_codec.specs.declared.block.Block.{Block}
@@ -12,19 +11,27 @@ use Rattle.follower_steps.specs.Steps.{PlacerByMark, State, started, Step, Known
 use Rattle.follower_steps.specs.Steps.{first_turn, further_turn}
 use Rattle.follower_steps.specs.Events.{Event, Delivery, after, delivered, IsFrameOf}
 use Rattle.follower_steps.specs.Laws.{IsPrefixOf}
-use Rattle.cli_promises.specs.Following.{Followed, after_frame, follow_all}
+use Rattle.cli_promises.specs.Promises.{Holds}
+use Rattle.cli_promises.specs.Following.{Followed, turn_line, after_frame, follow_all}
 
 -- ---- known blocks
 
--- A turn that reports a block as known reports one that the follower holds, so the line of the turn
--- promises that it stays. It holds of first turns and of further ones.
+-- The chain has a block with the number of this one, and the line that says so promises that this
+-- held block stays.
+pub record PromisesTheHeld (blocks : List Block) (block : Block) : Type 0 where
+  pub held : Block
+  pub there : slice_get blocks block.number ≡ Some held
+  pub promise_is : (turn_line compiled_in blocks (Known block)).promise ≡ Holds block.number held
+
+-- A turn that reports a block as known reports one that the follower holds, and the line of the
+-- turn promises that it stays. It holds of first turns and of further ones.
 pub record KnownIsHeld : Type 0 where
-  pub first : (state : State) (index : ℕ) (bytes : List ℕ) (number : ℕ)
-      → (first_turn stored_placement state index bytes).turned ≡ Known number
-      → is_some (slice_get state.blocks number) ≡ true
-  pub further : (state : State) (step : Step) (number : ℕ)
-      → further_turn stored_placement state ≡ Some step → step.turned ≡ Known number
-      → is_some (slice_get state.blocks number) ≡ true
+  pub first : (state : State) (index : ℕ) (bytes : List ℕ) (block : Block)
+      → (first_turn stored_placement state index bytes).turned ≡ Known block
+      → PromisesTheHeld state.blocks block
+  pub further : (state : State) (step : Step) (block : Block)
+      → further_turn stored_placement state ≡ Some step → step.turned ≡ Known block
+      → PromisesTheHeld state.blocks block
 
 -- ---- deliveries
 

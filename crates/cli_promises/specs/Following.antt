@@ -1,6 +1,6 @@
 -- What `follow` prints for the frames of an input, and how it ends.
 use Rattle.std.specs.Prelude.{◌≡◌, ℕ, zero, suc, ◌+◌, ◌-◌, true, List, [], ◌∷◌, ◌++◌}
-use Rattle.std.specs.Prelude.{length, drop, slice_get, Option, Some, None, Result, IfOk, is_ok}
+use Rattle.std.specs.Prelude.{length, drop, Option, Some, None, Result, IfOk, is_ok}
 use Rattle.lc_io.specs.Disk.{DiskState, Stays}
 use Rattle.lc_io.specs.Outside.{Tell}
 use Rattle.disk_model.specs.Disk.{Keeps, Rests}
@@ -11,11 +11,10 @@ use Rattle.block_log.specs.Standing.{Logged, with_blocks}
 use Rattle.follower_steps.specs.chain_exec.Compiled.{Compiler}
 use Rattle.follower_steps.specs.chain_replay.Judging as judging
 use Rattle.recovery.specs.Node.{next_in_chain, chain_in}
-use Rattle.cli_promises.specs.Promises.{Promise, NoPromise, Holds, Line, plain, Telling, IsPartly}
+use Rattle.cli_promises.specs.Promises.{Line, plain, Telling, IsPartly}
 use Rattle.cli_lines.specs.Lines.{refused_line}
 use Rattle.cli_lines.specs.chain_input.Folding.{FoldEnd, Whole, Refused}
 use Rattle.cli_lines.specs.chain_input.declared.cause.Cause.TheVariants as causes
-use Rattle.cli_promises.specs.Lines.{known_line}
 use Rattle.cli_promises.specs.Appending.{IsKnown, line_of, fold_end}
 use Rattle.cli_promises.specs.declared.ending.RunEnd.{RunEnd}
 use Rattle.cli_promises.specs.declared.ending.RunStop.{RunStop}
@@ -27,25 +26,19 @@ use Rattle.cli_promises.specs.FollowLines.{kept_line, dropped_line, follow_line}
 
 -- ---- the line of a turn
 
--- The promise of a line about a block that is held: that it stays.
-abbrev pub held_promise : ℕ → Option Block → Promise
-held_promise number (Some block) = Holds number block
-held_promise number None = NoPromise
-
 -- The line of a turn of a follower that had these blocks before it. The line of an added block, or
--- of a known one, promises that the chain has it as its block of that number. The others promise
--- nothing.
+-- of a known one, is that of `append`: it promises that the chain has the added block, or the one
+-- that it held, as its block of that number. The others promise nothing.
 abbrev pub turn_line : Compiler → List Block → Turned → Line
 turn_line compile blocks (Added block) = line_of compile blocks (judging.Added block)
-turn_line compile blocks (Known number) =
-    record { text = known_line number; promise = held_promise number (slice_get blocks number) }
+turn_line compile blocks (Known block) = line_of compile blocks (judging.Known block)
 turn_line compile blocks (Kept number) = plain (kept_line number)
 turn_line compile blocks (Dropped index cause) = plain (dropped_line index cause)
 
 -- The blocks that a turn adds.
 abbrev pub added_in : Turned → List Block
 added_in (Added block) = block ∷ []
-added_in (Known number) = []
+added_in (Known block) = []
 added_in (Kept number) = []
 added_in (Dropped index cause) = []
 

@@ -14,4 +14,6 @@ pub use cli_lines::{
 pub use ending::{RunEnd, RunStop};
 pub use laws::{begun_is_prefix, runs_hold, stop_leaves};
 pub use lines::{appended_line, block_line, known_line};
-pub use recovery::{AppendError, Node, StartError, StoredLog, stored_chain, stored_roots};
+pub use recovery::{
+    AppendError, Appended, Node, StartError, StoredLog, stored_chain, stored_roots,
+};

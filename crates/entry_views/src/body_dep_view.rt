@@ -14,13 +14,6 @@ impl<'p> ListView<'p, BodyDep> {
     pub fn get(&self, i: usize) -> Option<BodyDep>
         ensures { result ≡ slice_get self.now i }
     {
-        let mut rest = self.again();
-        for _ in 0..i {
-            match rest.next() {
-                None => return None,
-                Some(_) => {}
-            }
-        }
-        rest.next()
+        self.item(i)
     }
 }

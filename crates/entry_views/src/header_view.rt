@@ -1,5 +1,6 @@
 //! Headers, read in place: keys and digests are copied, and the links stay in the bytes.
 
+ghost use Rattle.std.specs.Prelude.{◌≡◌};
 ghost use Rattle.entry_views.specs.{Headers.{header_codec}, Standing.{IsReadAt}};
 
 use crate::entry_view::EntryView;
@@ -38,6 +39,57 @@ impl<'p> Model for HeaderFields<'p> {
 
 /// A header in the bytes that it was read from.
 pub type HeaderView<'p> = EntryView<'p, HeaderFields<'p>>;
+
+impl<'p> EntryView<'p, HeaderFields<'p>> {
+    /// The key of the version.
+    pub fn key(&self) -> Key
+        ensures { result ≡ self.now.value.key }
+    {
+        self.fields.key
+    }
+
+    /// The number of its block.
+    pub fn block(&self) -> u32
+        ensures { result ≡ self.now.value.block }
+    {
+        self.fields.block
+    }
+
+    /// The index of its transaction in the block, from 0.
+    pub fn tx(&self) -> u16
+        ensures { result ≡ self.now.value.tx }
+    {
+        self.fields.tx
+    }
+
+    /// The digest of its body.
+    pub fn body(&self) -> Digest
+        ensures { result ≡ self.now.value.body }
+    {
+        self.fields.body
+    }
+
+    /// How many versions were derived from the version before it, up to the end of its block.
+    pub fn closed(&self) -> u64
+        ensures { result ≡ self.now.value.closed }
+    {
+        self.fields.closed
+    }
+
+    /// The digest of these, as a forward list.
+    pub fn closed_digest(&self) -> Digest
+        ensures { result ≡ self.now.value.closed_digest }
+    {
+        self.fields.closed_digest
+    }
+
+    /// Its links, one for each level from 0.
+    pub fn links(&self) -> LinkView<'p>
+        ensures { result ≡ self.now.value.links }
+    {
+        self.fields.links.again()
+    }
+}
 
 /// Reads the header at the offset `at` of the bytes, without the byte that comes first when it is
 /// hashed. An error exactly if there is none; it says where the first invalid field begins.

@@ -16,6 +16,7 @@ mod limits;
 mod link_view;
 mod list_items;
 mod list_view;
+mod plain_views;
 mod reading;
 
 pub use body_dep_view::BodyDepView;
@@ -26,7 +27,7 @@ pub use entry_view::{EntryFields, EntryView, ReadFields};
 pub use fault::FieldError;
 pub use header_view::{HeaderFields, HeaderView, read_header};
 pub use laws::{fields_determine_a_body, fields_determine_a_header, fields_determine_a_leaf};
-pub use leaf_view::LeafView;
+pub use leaf_view::{LeafView, read_leaf};
 pub use link_view::LinkView;
 pub use list_view::{ListItem, ListView, read_list};
 pub use prov_entry::{

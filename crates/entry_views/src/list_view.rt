@@ -1,7 +1,7 @@
 //! Lists that are read in place: all items were read and checked once, so that none is invalid when
 //! it is taken.
 
-ghost use Rattle.std.specs.Prelude.{◌≡◌, ◌==◌, ◌∷◌, [], ℕ, List, length, MatchOption};
+ghost use Rattle.std.specs.Prelude.{◌≡◌, ◌==◌, ◌∷◌, [], ℕ, List, length, slice_get, MatchOption};
 ghost use Rattle.byte_fields.specs.{Reader.{fault_left, Reads}, Reading.{Field, items_at}};
 ghost use Rattle.entry_views.specs.{Items.{Skips}, Reading.{short_list_at}};
 
@@ -82,6 +82,20 @@ impl<'p, T: ListItem> ListView<'p, T> {
             }
             Err(_) => None,
         }
+    }
+
+    /// The item at an index, from 0; `None` exactly past the end. All before it are read.
+    pub(crate) fn item(&self, i: usize) -> Option<T>
+        ensures { result ≡ slice_get self.now i }
+    {
+        let mut rest = self.again();
+        for _ in 0..i {
+            match rest.next() {
+                None => return None,
+                Some(_) => {}
+            }
+        }
+        rest.next()
     }
 }
 

@@ -1,278 +1,71 @@
-//! The edge over a real file. No contract can name what the file holds, so it is not known.
+//! The edge over a real file: what the calls of the trait are on the host. No contract can name
+//! what these do.
 
-ghost use Rattle.std.specs.Prelude.{
-  ◌≡◌,
-  ◌⊎◌,
-  ◌≤◌,
-  ◌+◌,
-  true,
-  false,
-  [],
-  None,
-  length,
-  IfOk,
-  OnOk,
-  IsErr,
-  IsOk,
-};
-ghost use Rattle.lc_io.specs.{Streams.{CountsFaults}, Scratch.{HoldsAt, IsKeptAt}};
-ghost use Rattle.file_scratch.specs.{
-  Gathered.{fits, Writes},
-  FileScratch.{unknown_up_to, len_of, PutsAtEnd, ServesUnknown},
-};
+ghost use Rattle.std.specs.Prelude.{◌≡◌};
 
-use crate::gathered::Gathered;
-use lc_base::Memory;
-use lc_io::{Failed, Scratch, one_more};
-use std::alloc::Global;
-use std::fs::{File, OpenOptions};
+use crate::calls::{Calls, Created};
+use lc_io::Failed;
+use std::fs::{self, File, OpenOptions};
 use std::io::ErrorKind;
 use std::os::unix::fs::{FileExt, OpenOptionsExt};
-use std::{fs, io};
-
-/// The name under which the file is made in its folder.
-const NAME: &str = "chain.scratch";
-
-/// What is appended to that name while a file of the name exists.
-const MARK: char = '_';
-
-/// How many names are tried, each with one mark more. A run holds a name only for an instant.
-const NAMES: usize = 32;
 
 /// Only the owner may open the file.
 const MODE: u32 = 0o600;
 
-/// The path of the name in a folder, with room for the marks, so that no memory is taken later.
-fn path_in(alloc: Global, folder: &str) -> Result<String, Memory> {
-    let mut path = String::with_capacity(
-        alloc,
-        folder.len().saturating_add(1 + NAME.len() + NAMES),
-    )?;
-    path.push_str(folder)?;
-    path.push('/')?;
-    path.push_str(NAME)?;
-    Ok(path)
+/// The calls of the host.
+#[derive(Drop)]
+pub struct HostCalls<'a> {
+    rt: &'a HostRuntime,
+    file: Option<File>,
 }
 
-/// Makes a file at a path at which nothing exists.
-fn create_file(rt: &HostRuntime, path: &str) -> io::Result<File> {
-    let mut options = OpenOptions::new();
-    options.read(true).write(true).create_new(true).mode(MODE);
-    options.open(rt, path)
+impl<'a> HostCalls<'a> {
+    /// Over an open file, or none yet.
+    pub(crate) fn new(rt: &'a HostRuntime, file: Option<File>) -> HostCalls<'a>
+        ensures file { result.file ≡ file }
+    {
+        HostCalls { rt, file }
+    }
 }
 
-/// Makes a file at the path, or at the first path with marks appended at which nothing exists.
-/// `path` has these marks afterwards.
-fn create_named(rt: &HostRuntime, path: &mut String) -> Result<File, Failed> {
-    for _ in 0..NAMES {
-        match create_file(rt, path.as_str()) {
-            Ok(file) => return Ok(file),
-            Err(e) if e.kind() == ErrorKind::AlreadyExists => {
-                path.push(MARK).map_err(|_| Failed)?;
-            }
+impl<'a> Calls for HostCalls<'a> {
+    fn create(&mut self, path: &str) -> Result<Created, Failed> {
+        let mut options = OpenOptions::new();
+        options.read(true).write(true).create_new(true).mode(MODE);
+        match options.open(self.rt, path) {
+            Ok(file) => self.file = Some(file),
+            Err(e) if e.kind() == ErrorKind::AlreadyExists => return Ok(Created::Exists),
             Err(_) => return Err(Failed),
         }
-    }
-    Err(Failed)
-}
-
-/// Writes bytes at a place of the file.
-fn write_at(file: &Option<File>, bytes: &[u8], place: u64) -> Result<(), Failed> {
-    match file {
-        Some(file) => file.write_all_at(bytes, place).map_err(|_| Failed),
-        None => Err(Failed),
-    }
-}
-
-/// A scratch device over a file of its own, to which every put appends. The first call makes the
-/// file, which no other run has, and removes its name, so that nothing is left of it when the
-/// program ends, however it ends. If the system does not let an open file lose its name, the name
-/// stays until the device is closed.
-///
-/// The last bytes that were put are gathered in memory, and written when there is no room for the
-/// next ones, or when one of them is read.
-#[derive(Drop)]
-pub struct FileScratch<'a> {
-    rt: &'a HostRuntime,
-    path: String,
-    file: Option<File>,
-    is_named: bool,
-    gathered: Gathered,
-    faults: u64,
-}
-
-impl<'a> FileScratch<'a> {
-    /// A device that has touched no file, and of which no call has failed. Its file will be made in
-    /// `folder`; a relative path starts at the current folder.
-    pub fn new(alloc: Global, rt: &'a HostRuntime, folder: &str) -> Result<FileScratch<'a>, Memory>
-        ensures file { IfOk result (λ scratch. scratch.file ≡ None) }
-        ensures named { IfOk result (λ scratch. scratch.is_named ≡ false) }
-        ensures len { IfOk result (λ scratch. len_of scratch ≡ 0) }
-        ensures faults { IfOk result (λ scratch. scratch.faults ≡ 0) }
-    {
-        Ok(FileScratch {
-            rt,
-            path: path_in(alloc, folder)?,
-            file: None,
-            is_named: false,
-            gathered: Gathered::new(alloc)?,
-            faults: 0,
-        })
+        Ok(Created::Made)
     }
 
-    /// A device over an open, empty file that nobody else writes.
-    pub fn over(alloc: Global, rt: &'a HostRuntime, file: File) -> Result<FileScratch<'a>, Memory>
-        ensures named { IfOk result (λ scratch. scratch.is_named ≡ false) }
-        ensures len { IfOk result (λ scratch. len_of scratch ≡ 0) }
-        ensures faults { IfOk result (λ scratch. scratch.faults ≡ 0) }
-    {
-        Ok(FileScratch {
-            rt,
-            path: String::new(alloc),
-            file: Some(file),
-            is_named: false,
-            gathered: Gathered::new(alloc)?,
-            faults: 0,
-        })
-    }
-
-    /// Removes the name of the file, if it still has one.
-    pub fn close(self) -> Result<(), Failed>
-        ensures untouched { self.entry.is_named ≡ false → IsOk result }
-    {
-        if self.is_named {
-            return fs::remove_file(self.rt, self.path.as_str()).map_err(|_| Failed);
-        }
+    /// The descriptor of a clone is 3 or more. If a standard stream was closed when the program
+    /// started, its descriptor is free and a new file could get it.
+    fn set_apart(&mut self) -> Result<(), Failed> {
+        let clone = match &self.file {
+            Some(file) => file.try_clone().map_err(|_| Failed)?,
+            None => return Err(Failed),
+        };
+        self.file = Some(clone);
         Ok(())
     }
 
-    /// Makes the file, and removes its name. The descriptor is 3 or more because it is a clone's:
-    /// if a standard stream was closed when the program started, its descriptor is free and a new
-    /// file could get it.
-    fn make(&mut self) -> Result<File, Failed>
-        ensures gathered { self.new.gathered ≡ self.old.gathered }
-        ensures faults { self.new.faults ≡ self.old.faults }
-    {
-        let file = create_named(self.rt, &mut self.path)?;
-        self.is_named = fs::remove_file(self.rt, self.path.as_str()).is_err();
-        file.try_clone().map_err(|_| Failed)
+    fn remove(&mut self, path: &str) -> Result<(), Failed> {
+        fs::remove_file(self.rt, path).map_err(|_| Failed)
     }
 
-    /// Makes the file, unless it has been made.
-    fn open(&mut self) -> Result<(), Failed>
-        ensures gathered { self.new.gathered ≡ self.old.gathered }
-        ensures faults { self.new.faults ≡ self.old.faults }
-    {
-        if self.file.is_none() {
-            self.file = Some(self.make()?);
-        }
-        Ok(())
-    }
-
-    /// Writes what is gathered. If that fails, all of it stays gathered, and a later call tries
-    /// again.
-    fn flush(&mut self) -> Result<(), Failed>
-        ensures gathered { Writes self.old.gathered self.new.gathered result }
-        ensures faults { self.new.faults ≡ self.old.faults }
-    {
-        write_at(&self.file, self.gathered.bytes(), self.gathered.place())?;
-        self.gathered.flushed();
-        Ok(())
-    }
-
-    /// Writes what is gathered, unless there is room for `count` more bytes.
-    fn make_room(&mut self, count: usize) -> Result<(), Failed>
-        ensures room { IfOk result (λ _. (fits self.new.gathered count ≡ true) ⊎ (self.new.gathered.bytes ≡ [])) }
-        ensures len { len_of self.new ≡ len_of self.old }
-        ensures faults { self.new.faults ≡ self.old.faults }
-    {
-        if self.gathered.fits(count) {
-            return Ok(());
-        }
-        self.flush()
-    }
-
-    /// Writes what is gathered, unless the `count` bytes at a place are in the file.
-    fn settle(&mut self, place: u64, count: usize) -> Result<(), Failed>
-        requires put { place + count ≤ len_of self.old }
-        ensures written { IfOk result (λ _. place + count ≤ self.new.gathered.place) }
-        ensures len { len_of self.new ≡ len_of self.old }
-        ensures faults { self.new.faults ≡ self.old.faults }
-    {
-        if self.gathered.is_written(place, count) {
-            return Ok(());
-        }
-        self.flush()
-    }
-
-    /// Appends bytes, and returns their place. More bytes than can be gathered are written at once.
-    fn write(&mut self, bytes: &[u8]) -> Result<u64, Failed>
-        ensures len { PutsAtEnd (length bytes.now) (len_of self.old) (len_of self.new) result }
-        ensures faults { self.new.faults ≡ self.old.faults }
-    {
-        let place = self.gathered.end();
-        let _end = place.checked_add(bytes.len() as u64).ok_or(Failed)?;
-        self.open()?;
-        self.make_room(bytes.len())?;
-        if self.gathered.fits(bytes.len()) {
-            self.gathered.push(bytes);
-        } else {
-            write_at(&self.file, bytes, place)?;
-            self.gathered.pass(bytes.len());
-        }
-        Ok(place)
-    }
-
-    /// Reads the bytes at a place. A file that ends earlier is a fault.
-    fn read(&mut self, place: u64, buffer: &mut [u8]) -> Result<(), Failed>
-        requires put { place + length buffer.old ≤ len_of self.old }
-        ensures len { len_of self.new ≡ len_of self.old }
-        ensures faults { self.new.faults ≡ self.old.faults }
-    {
-        self.open()?;
-        self.settle(place, buffer.len())?;
+    fn write(&mut self, place: u64, bytes: &[u8]) -> Result<(), Failed> {
         match &self.file {
-            Some(file) => file.read_exact_at(buffer, place).map_err(|_| Failed),
+            Some(file) => file.write_all_at(bytes, place).map_err(|_| Failed),
             None => Err(Failed),
         }
     }
-}
 
-impl<'a> Scratch for FileScratch<'a> {
-    ghost state = { λ s. unknown_up_to (len_of s) };
-
-    ghost scratch_faults = { λ s. s.faults };
-
-    /// Appends bytes to all that was put before. A put that would end past the last value of a
-    /// `u64` is a fault.
-    fn put(&mut self, bytes: &[u8]) -> Result<u64, Failed>
-        ensures serves { ServesUnknown self.old self.new (IsErr result) }
-        ensures put { IfOk result (λ place. IsKeptAt (unknown_up_to (len_of self.new)) place bytes.now) }
-        ensures len { PutsAtEnd (length bytes.now) (len_of self.old) (len_of self.new) result }
-        ensures faults { CountsFaults self.old.faults self.new.faults result }
-    {
-        match self.write(bytes) {
-            Ok(place) => Ok(place),
-            Err(Failed) => {
-                self.faults = one_more(self.faults);
-                Err(Failed)
-            }
-        }
-    }
-
-    fn get(&mut self, place: u64, buffer: &mut [u8]) -> Result<(), Failed>
-        requires kept { (unknown_up_to (len_of self.old)).kept place (length buffer.old) ≡ true }
-        ensures serves { ServesUnknown self.old self.new (IsErr result) }
-        ensures bytes { OnOk result (HoldsAt (unknown_up_to (len_of self.old)) place buffer.new) }
-        ensures len { len_of self.new ≡ len_of self.old }
-        ensures faults { CountsFaults self.old.faults self.new.faults result }
-    {
-        match self.read(place, buffer) {
-            Ok(()) => Ok(()),
-            Err(Failed) => {
-                self.faults = one_more(self.faults);
-                Err(Failed)
-            }
+    fn read(&mut self, place: u64, buffer: &mut [u8]) -> Result<(), Failed> {
+        match &self.file {
+            Some(file) => file.read_exact_at(buffer, place).map_err(|_| Failed),
+            None => Err(Failed),
         }
     }
 }

@@ -16,7 +16,7 @@ use Rattle.follower_steps.specs.chain_replay.Judging.{Taken, judgement_of}
 use Rattle.follower_steps.specs.chain_replay.Judging as judging
 use Rattle.follower_steps.specs.chain_replay.declared.refusal.Refusal.{Refusal}
 use Rattle.recovery.specs.Node.{NodeState, IsNodeOf, IsAppendAnswer, IsNodeAfter, IsStepOf, IfNode}
-use Rattle.recovery.specs.Node.{Blames}
+use Rattle.recovery.specs.Node.{Blames, IsAsJudged, node_judgement}
 use Rattle.recovery.specs.Node.{is_disk_fault, is_scratch_fault, blocks_after, logged_in, chain_in}
 use Rattle.recovery.specs.Node.{stored_placement}
 use Rattle.recovery.specs.Node as nodes
@@ -25,7 +25,7 @@ use Rattle.recovery.specs.declared.node.Appended.TheVariants as appendeds
 use Rattle.recovery.specs.declared.errors.AppendError.{AppendError}
 use Rattle.recovery.specs.declared.errors.AppendError.TheVariants as errors
 use Rattle.follower_steps.specs.declared.waiting.Waiting.{Waiting}
-use Rattle.follower_steps.specs.Steps.{State, AreAhead, Known, judged, decided, position_of}
+use Rattle.follower_steps.specs.Steps.{State, AreAhead, judged, decided, position_of}
 use Rattle.follower_steps.proofs.Nearby.{ahead_longer}
 use Rattle.follow_core.specs.declared.turn.Turn.{Turn}
 use Rattle.follow_core.specs.declared.turn.FollowFault.{FollowFault}
@@ -78,8 +78,11 @@ module _ (old : NodeState) (disk : Option DiskState) (state : State) (index : �
         (follower_turn index waiting answer)
     answer_made judgement (Ok (node, appendeds.Known number)) waits marked same (told, is) =
         let (block, known, number_is, still) = told in (
-          subst (λ (j : Result Taken Refusal). (judged state index j).turned ≡ Known number)
-              (sym known) (ap Known (sym number_is)),
+          (
+            block,
+            ap (λ (j : Result Taken Refusal). (judged state index j).turned) known,
+            number_is,
+          ),
           follower_of node judgement waits (same ∙ marked) is,
         )
     answer_made judgement (Ok (node, appendeds.Added number rows receipts root)) waits marked same
@@ -203,17 +206,17 @@ module _ (old : NodeState) (waiting : List Waiting)
 
 module _ (index : ℕ) (waiting : List Waiting) where
   pub is_decided : (old : NodeState) (bytes : List ℕ) (answer : NodeAnswer)
-      → IsNodeAfter old bytes answer
+      → IsNodeAfter old bytes answer → IsAsJudged (node_judgement old bytes) answer
       → IfOk (follower_turn index waiting answer)
       (λ done. IsDecided old index bytes done.0.node done.1)
-  is_decided old bytes (Ok (node, appendeds.Known number)) same = same
-  is_decided old bytes (Ok (node, appendeds.Added number rows receipts root)) longer = longer
-  is_decided old bytes (Err (Some node, errors.Refused refusal)) same =
-      (same, refl, (refusal, refl))
-  is_decided old bytes (Err (None, errors.Refused refusal)) same = tt
-  is_decided old bytes (Err (back, errors.DiskFault)) same = tt
-  is_decided old bytes (Err (back, errors.ScratchFault)) same = tt
-  is_decided old bytes (Err (back, errors.Memory)) same = tt
+  is_decided old bytes (Ok (node, appendeds.Known number)) same kept = (same, kept)
+  is_decided old bytes (Ok (node, appendeds.Added number rows receipts root)) longer kept = longer
+  is_decided old bytes (Err (Some node, errors.Refused refusal)) same kept =
+      (same, refl, (refusal, refl, kept))
+  is_decided old bytes (Err (None, errors.Refused refusal)) same kept = tt
+  is_decided old bytes (Err (back, errors.DiskFault)) same kept = tt
+  is_decided old bytes (Err (back, errors.ScratchFault)) same kept = tt
+  is_decided old bytes (Err (back, errors.Memory)) same kept = tt
 
   pub node_made : (P : NodeState → Type 0) (answer : NodeAnswer) → IfNode P answer
       → IfOk (follower_turn index waiting answer) (λ done. P done.0.node)

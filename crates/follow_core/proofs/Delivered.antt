@@ -26,7 +26,7 @@ use Rattle.follower_steps.specs.declared.cause.Cause.TheVariants as causes
 use Rattle.follower_steps.specs.declared.waiting.Waiting.{Waiting}
 use Rattle.follower_steps.specs.declared.waiting.Arrival.{Arrival}
 use Rattle.follower_steps.specs.declared.waiting.Arrival.TheVariants as arrivals
-use Rattle.follower_steps.specs.Steps.{State, Step, Known, Kept, arrival_in, arrived, first_turn}
+use Rattle.follower_steps.specs.Steps.{State, Step, Kept, arrival_in, arrived, first_turn}
 use Rattle.follower_steps.specs.Steps.{judged, kept}
 use Rattle.follower_steps.specs.Steps as steps
 use Rattle.follower_steps.proofs.Arrivals.{held_is}
@@ -194,7 +194,8 @@ held_judged : (disk : Option DiskState) (follower : FollowerState) (state : Stat
       if same then turns.Known number
           else turns.Dropped index (causes.Refused (refusals.Placed (misplaced.Fork have))),
     ))
-held_judged disk follower state index number block have true number_is is = (ap Known number_is, is)
+held_judged disk follower state index number block have true number_is is =
+    ((block, refl, sym number_is), is)
 held_judged disk follower state index number block have false number_is is = (refl, is)
 
 -- the chain decides about it by its digest and that of the held one

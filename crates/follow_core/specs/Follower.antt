@@ -37,7 +37,8 @@ IsTurn blocks turned (turns.Block number rows receipts root) =
     × (rows ≡ length (block_effects compiled_in (replay compiled_in blocks) block).rows)
     × (receipts ≡ (block_effects compiled_in (replay compiled_in blocks) block).receipts)
     × (root.0 ≡ root_in compiled_in (blocks ++ block ∷ []) block.number)
-IsTurn blocks turned (turns.Known number) = turned ≡ Known number
+IsTurn blocks turned (turns.Known number) =
+    (block : Block) × (turned ≡ Known block) × (number ≡ block.number)
 IsTurn blocks turned (turns.Kept number) = turned ≡ Kept number
 IsTurn blocks turned (turns.Dropped index cause) = turned ≡ Dropped index cause
 

@@ -6,10 +6,12 @@ use Rattle.std.specs.Option.{option_and_then}
 use Rattle.lc_base.specs.declared.digest.Digest.{Digest}
 use Rattle.lc_io.specs.Disk.{DiskState}
 use Rattle.block_codec.specs.Placement.{bytes_digest, is_same_digest}
+use Rattle.block_codec.specs.declared.block.Block.{Block}
 use Rattle.block_codec.specs.declared.placement.Misplaced.TheVariants as misplaced
+use Rattle.follower_steps.specs.chain_replay.Judging.{Known}
 use Rattle.follower_steps.specs.chain_replay.declared.refusal.Refusal.{Refusal}
 use Rattle.follower_steps.specs.chain_replay.declared.refusal.Refusal.TheVariants as refusals
-use Rattle.recovery.specs.Node.{NodeState, KeepsLog}
+use Rattle.recovery.specs.Node.{NodeState, KeepsLog, node_judgement}
 use Rattle.recovery.specs.declared.node.Appended.{Appended}
 use Rattle.recovery.specs.declared.node.Appended.TheVariants as appendeds
 use Rattle.recovery.specs.declared.errors.AppendError.{AppendError}
@@ -64,16 +66,19 @@ held_turn index number have digest =
 -- The chain decided about these bytes of the frame `index`. If their block was added, its number is
 -- that of the next one, and the node has the digest of the bytes after the others, and as many more
 -- rows as are reported. Else the node is as it was, and the block is known, or dropped with the
--- chain's reason and this index.
+-- chain's reason and this index: the digests that the node keeps, the number of its rows and the mark
+-- say which.
 abbrev pub IsDecided : NodeState → ℕ → List ℕ → NodeState → Turn → Type 0
 IsDecided old index bytes node (turns.Block number rows receipts root) =
     (number ≡ length old.chain.digests)
     × (node.chain.digests ≡ old.chain.digests ++ bytes_digest bytes ∷ [])
     × (length node.chain.rows ≡ length old.chain.rows + rows)
-IsDecided old index bytes node (turns.Known number) = node ≡ old
+IsDecided old index bytes node (turns.Known number) = (node ≡ old)
+    × ((block : Block) × (node_judgement old bytes ≡ Ok (Known block)) × (number ≡ block.number))
 IsDecided old index bytes node (turns.Kept number) = ⊥
 IsDecided old index bytes node (turns.Dropped other cause) = (node ≡ old) × (other ≡ index)
-    × ((refusal : Refusal) × (cause ≡ causes.Refused refusal))
+    × ((refusal : Refusal) × (cause ≡ causes.Refused refusal)
+    × (node_judgement old bytes ≡ Err refusal))
 
 -- The first turn about these bytes of the frame `index`, by what was to become of them.
 abbrev pub IsFirstTurn : NodeState → ℕ → List ℕ → Arrival → NodeState → Turn → Type 0

@@ -89,7 +89,7 @@ WaitsNearby = (compile : Compiler) (blocks : List Block) (marked : Bool) (events
 -- The chain didn't refuse the block because the next one has another number.
 abbrev pub IsNotRefusedForNumber : Turned → Type 0
 IsNotRefusedForNumber (Added block) = Unit {0}
-IsNotRefusedForNumber (Known number) = Unit {0}
+IsNotRefusedForNumber (Known block) = Unit {0}
 IsNotRefusedForNumber (Kept number) = Unit {0}
 IsNotRefusedForNumber (Dropped index cause) =
     (want : ℕ) → cause ≢ causes.Refused (refusals.Placed (misplaced.Number want))

@@ -56,12 +56,12 @@ pub record AreAhead (held : ℕ) (waiting : List Waiting) : Type 0 where
 
 -- ---- one turn
 
--- What became of a block in a turn: it was added; it is held already, with this number; it is kept
+-- What became of a block in a turn: it was added; it is known, as the one that is held; it is kept
 -- until the blocks before this number, its own, are held; or it was dropped, and this is the index
 -- of the frame that brought it.
 pub data Turned : Type 0 where
   Added : Block → Turned
-  Known : ℕ → Turned
+  Known : Block → Turned
   Kept : ℕ → Turned
   Dropped : ℕ → Cause → Turned
 
@@ -77,7 +77,7 @@ judged state index (Ok (judging.Added block)) = record {
   turned = Added block;
 }
 judged state index (Ok (judging.Known block)) =
-    record { state = state; turned = Known block.number }
+    record { state = state; turned = Known block }
 judged state index (Err refusal) =
     record { state = state; turned = Dropped index (causes.Refused refusal) }
 

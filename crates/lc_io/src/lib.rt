@@ -9,6 +9,7 @@ mod mem_scratch;
 mod mem_source;
 mod mem_wire;
 mod outside;
+mod patient;
 mod scratch;
 
 pub use edge::{HostSource, HostStream, HostWire, write_whole};
@@ -18,4 +19,5 @@ pub use mem_scratch::MemScratch;
 pub use mem_source::MemSource;
 pub use mem_wire::{MemWire, Room};
 pub use outside::{Clock, Failed, Source, Wire};
+pub use patient::Patient;
 pub use scratch::Scratch;

@@ -8,11 +8,11 @@ ghost use Rattle.merkle_dag.specs.Lineage.{AgreesWith};
 
 use crate::acts::{Act, holds_of};
 use crate::lineages::{chain_of, device, is_same_answer};
+use crate::versions::Steps;
 use chain_pack::blocks_of_seed;
 use chain_replay::{Chain, Replay};
 use lc_base::{Kind, Query, TextList};
 use lc_io::MemScratch;
-use lineage_index::Steps;
 use merkle_dag::Lineage;
 use prov_query::ask;
 use rooted_chain::AllRootsChain;

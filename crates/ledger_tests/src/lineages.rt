@@ -4,12 +4,12 @@ ghost use Rattle.std.specs.Prelude.{◌≡◌, ◌+◌, ◌≤◌, length, IfSom
 ghost use Rattle.block_codec.specs.declared.limits.TheConstants.{MAX_BLOCKS};
 ghost use Rattle.merkle_dag.specs.Lineage.{AgreesWith};
 
+use crate::versions::Steps;
 use block_codec::{FIRST_VERSION, MAX_BLOCKS};
 use chain_pack::pack;
 use chain_replay::{Judged, Marking, Replay};
 use lc_base::{Answer, Dep, Key, Kind, Query, Resources, TextList, Value, Zeros};
 use lc_io::{MemScratch, Room, Scratch};
-use lineage_index::Steps;
 use merkle_dag::{Lineage, QueryError};
 use prov_query::{answer, ask};
 use rooted_chain::LineageChain;

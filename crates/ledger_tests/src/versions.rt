@@ -153,7 +153,7 @@ impl Versions {
             Some(newest) => {
                 let block = match find(&self.store, newest.id, at, &mut steps) {
                     None => None,
-                    Some(id) => block_at(&self.store, id.0),
+                    Some(found) => block_at(&self.store, found.id.0),
                 };
                 (block, steps.count())
             }

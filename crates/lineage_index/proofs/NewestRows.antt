@@ -1,6 +1,6 @@
 -- The newest row of a key.
 use Rattle.std.proofs.Common.{◌≡◌, ◌∙◌, ℕ, zero, suc, ◌<◌, false, List, [], ◌∷◌, length, get_or, Option, Some, None, refl, sym, ap, arith}
-use Rattle.std.specs.Prelude.{slice_get}
+use Rattle.std.specs.Prelude.{slice_get, MatchOption}
 use Rattle.std.specs.Option.{option_map}
 use Rattle.std.proofs.lemmas.Option.{get_or_from_slice_get, none-some, same_Some}
 use Rattle.lc_base.specs.declared.row.Row.{Row}
@@ -11,6 +11,7 @@ use Rattle.skip_links.proofs.Threads.{newest_below}
 use Rattle.plain_rows.specs.Places.{IsRowAt}
 use Rattle.skip_list.specs.entry_store.declared.entry.EntryId.{EntryId}
 use Rattle.skip_list.specs.entry_store.Entries.{Entry as StoreEntry}
+use Rattle.skip_list.specs.declared.lookup.Found.{Found}
 use Rattle.lineage_index.specs.Versions.{newest_entry}
 use Rattle.lineage_index.specs.Entries.{IsNewestOf}
 use Rattle.lineage_index.proofs.Versions.{newest_is_index}
@@ -66,3 +67,11 @@ row_at (row ∷ rows) (suc index) l = row_at rows index (omega (arith, l))
 
 pub row_found : (rows : List Row) (found : Option Row) (index : ℕ) → (index < length rows) × (slice_get rows index ≡ found) → IsRowAt rows (Some index) found
 row_found rows found index is = let at = row_at rows index is.0 in (at.0, sym is.1 ∙ at.1, at.1)
+
+-- What a lookup found is at the index that its entry has.
+pub found_at : (rows : List Row) (row : Option Row) (found : Option Found)
+    → MatchOption found (row ≡ None)
+    (λ (f : Found). (f.id.0 < length rows) × (slice_get rows f.id.0 ≡ row))
+    → IsRowAt rows (option_map (λ (f : Found). f.id.0) found) row
+found_at rows row None is = is
+found_at rows row (Some f) is = row_found rows row f.id.0 is

@@ -7,9 +7,8 @@ ghost use Rattle.skip_links.specs.Paths.{binary_digits};
 ghost use Rattle.skip_list.specs.entry_store.declared.entry.EntryId.{EntryId};
 ghost use Rattle.lineage_index.specs.{Entries.{entries_of}, Growing.{IsNextVersion}};
 
-use crate::counter::Steps;
 use lc_base::{Bytes, Digest, Key, Memory};
-use skip_list::{EntryId, Store, links_for};
+use skip_list::{Counter, EntryId, Steps, Store, links_for};
 use std::alloc::Global;
 
 /// A version that is to become an entry.
@@ -28,13 +27,13 @@ pub struct NewVersion {
 
 /// Adds the version of a row, with the links to older versions of its key, and returns its entry.
 /// `newest` is the entry of the newest one of these. If memory runs out, the store stays as it was.
-pub fn push_version(
+pub fn push_version<C: Counter>(
     alloc: Global,
     store: &mut Store,
     newest: Option<EntryId>,
     version: NewVersion,
     body: &Bytes,
-    steps: &mut Steps,
+    steps: &mut Steps<C>,
 ) -> Result<EntryId, Memory>
     requires { (all : List Row) × (rows : List Row) × (row : Row) × IsNextVersion all rows row newest store.old version body.now }
     ensures ok { (all rows : List Row) (row : Row) → IsNextVersion all rows row newest store.old version body.now → OnOk result (store.new ≡ entries_of all (rows ++ row ∷ [])) }

@@ -10,19 +10,18 @@ ghost use Rattle.plain_rows.specs.root_laws.Naming.{header_of};
 ghost use Rattle.skip_list.specs.entry_store.Steps.{raised_count};
 ghost use Rattle.lineage_index.specs.{Entries.{entries_of}, Headers.{header_made}};
 
-use crate::counter::Steps;
 use entry_views::Header;
 use lc_base::Memory;
-use skip_list::{EntryId, Store};
+use skip_list::{Counter, EntryId, Steps, Store};
 use std::alloc::Global;
 
 /// The header of an entry; if the entries are those of a history, it is that of the entry's row. It
 /// reads one entry.
-pub fn entry_header(
+pub fn entry_header<C: Counter>(
     alloc: Global,
     store: &Store,
     id: EntryId,
-    steps: &mut Steps,
+    steps: &mut Steps<C>,
 ) -> Result<Header, Memory>
     requires { id.0 < length store.now }
     ensures made { IfOk result (λ header. option_map (header_made store.now) (slice_get store.now id.0) ≡ Some header) }

@@ -15,9 +15,11 @@ ghost use Rattle.std.specs.Prelude.{
   None,
   Some,
   IfOk,
+  IfSome,
   MatchOption,
   OnOk,
 };
+ghost use Rattle.std.specs.Option.{option_map};
 ghost use Rattle.lc_base.specs.{declared.row.Row.{Row}, History.{latest, newest, uses}};
 ghost use Rattle.skip_links.specs.{Versions.{newest_index}, Paths.{path}};
 ghost use Rattle.plain_rows.specs.{
@@ -26,7 +28,11 @@ ghost use Rattle.plain_rows.specs.{
   root_laws.Naming.{header_of},
   root_laws.Root.{leaves},
 };
-ghost use Rattle.skip_list.specs.entry_store.Steps.{raised_count};
+ghost use Rattle.skip_list.specs.{
+  entry_store.Steps.{raised_count},
+  declared.lookup.Found.{Found},
+  Lookups.{IsPrevious},
+};
 ghost use Rattle.lineage_index.specs.{
   Entries.{entries_of, IsNewestOf},
   OnPath.{AreEntriesIn},
@@ -37,7 +43,6 @@ ghost use Rattle.lineage_index.specs.{
 };
 
 use crate::advancing::advance;
-use crate::counter::Steps;
 use crate::headers::entry_header;
 use crate::heads::index_of;
 use crate::leaves::newest_at;
@@ -47,7 +52,7 @@ use entry_views::Header;
 use forward_links::OpenLists;
 use lc_base::{Key, Memory, Resources, Row, TextList};
 use plain_rows::IndexList;
-use skip_list::{EntryId, EntryList, Store};
+use skip_list::{Counter, EntryId, EntryList, Found, Steps, Store};
 use state_tree::Tree;
 
 /// The leaves, open lists and newest rows of keys, and the entries of rows. It does not keep the rows.
@@ -159,22 +164,41 @@ impl LineageIndex {
         newest_entry_of(&self.tree, self.newest.as_slice(), key)
     }
 
+    /// The entry of the last row of a key in a block up to `at`, with the link to that of the key's
+    /// row before it; `None` exactly if there is no such row. The entry's id is the index of the
+    /// row. `steps` rises by the length of the path, so by 0 for a key without rows.
+    pub fn latest<C: Counter>(&self, key: &Key, at: u32, steps: &mut Steps<C>) -> Option<Found>
+        requires { (rows : List Row) × (n : ℕ) × IsIndexOf rows n self.now }
+        ensures latest { (rows : List Row) (n : ℕ) → IsIndexOf rows n self.now
+            → IsRowAt rows (option_map (λ (found : Found). found.id.0) result) (latest rows key.now at) }
+        ensures previous { (rows : List Row) (n : ℕ) → IsIndexOf rows n self.now
+            → IfSome result (λ (found : Found). IsPrevious (entries_of rows rows) found.id found.previous) }
+        ensures count { (rows : List Row) (n : ℕ) → IsIndexOf rows n self.now → steps.new ≡ raised_count steps.old (length (path rows key.now at)) }
+    {
+        latest_entry(&self.store, self.newest_entry(key), at, steps)
+    }
+
     /// The index of the last row of a key in a block up to `at`; `None` exactly if there is none.
     /// `steps` rises by the length of the path, so by 0 for a key without rows.
-    pub fn latest_row(&self, key: &Key, at: u32, steps: &mut Steps) -> Option<u32>
+    pub fn latest_row<C: Counter>(&self, key: &Key, at: u32, steps: &mut Steps<C>) -> Option<u32>
         requires { (rows : List Row) × (n : ℕ) × IsIndexOf rows n self.now }
         ensures latest { (rows : List Row) (n : ℕ) → IsIndexOf rows n self.now → IsRowAt rows result (latest rows key.now at) }
         ensures count { (rows : List Row) (n : ℕ) → IsIndexOf rows n self.now → steps.new ≡ raised_count steps.old (length (path rows key.now at)) }
     {
-        match latest_entry(&self.store, self.newest_entry(key), at, steps) {
+        match self.latest(key, at, steps) {
             None => None,
-            Some(id) => Some(id.0),
+            Some(found) => Some(found.id.0),
         }
     }
 
     /// The entries of the rows of a key that `latest_row` looks at, in this order. `steps` rises by
     /// their number.
-    pub fn path(&self, key: &Key, at: u32, steps: &mut Steps) -> Result<EntryList, Memory>
+    pub fn path<C: Counter>(
+        &self,
+        key: &Key,
+        at: u32,
+        steps: &mut Steps<C>,
+    ) -> Result<EntryList, Memory>
         requires { (rows : List Row) × (n : ℕ) × IsIndexOf rows n self.now }
         ensures path { (rows : List Row) (n : ℕ) → IsIndexOf rows n self.now → IfOk result (AreEntriesIn rows key.now (path rows key.now at)) }
         ensures count { IfOk result (λ ids. steps.new ≡ raised_count steps.old (length ids)) }
@@ -240,15 +264,15 @@ impl LineageIndex {
         self.list_of(&facts.key, index)
     }
 
-    /// The header of the row at an index, made again of its entry.
-    pub fn header(&self, index: u32) -> Result<Header, Memory>
+    /// The header of the row at an index, made again of its entry: it reads that one.
+    pub fn header<C: Counter>(&self, index: u32, steps: &mut Steps<C>) -> Result<Header, Memory>
         requires { (rows : List Row) × (n : ℕ) × IsIndexOf rows n self.now × (index < length rows) }
-        ensures { (rows : List Row) (n : ℕ) (row : Row) → IsIndexOf rows n self.now → slice_get rows index ≡ Some row
+        ensures row { (rows : List Row) (n : ℕ) (row : Row) → IsIndexOf rows n self.now → slice_get rows index ≡ Some row
             → IfOk result (λ header. header ≡ header_of rows row) }
+        ensures step { steps.new ≡ raised_count steps.old 1 }
     {
         let alloc = *self.newest.allocator();
-        let mut steps = Steps::new();
-        let header = entry_header(alloc, &self.store, EntryId(index), &mut steps)?;
+        let header = entry_header(alloc, &self.store, EntryId(index), steps)?;
         Ok(header)
     }
 

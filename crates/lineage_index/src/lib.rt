@@ -3,7 +3,6 @@
 #![tactic(auto)]
 
 mod advancing;
-mod counter;
 mod growing;
 mod headers;
 mod heads;
@@ -17,7 +16,6 @@ mod row_laws;
 mod settling;
 mod spelling;
 
-pub use counter::{LookupCounter, Steps};
 pub use entry_views::{Header, root_digest};
 pub use forward_links::{OpenList, OpenLists};
 pub use growing::{NewVersion, push_version};
@@ -35,5 +33,5 @@ pub use row_laws::{
     lookup_gives_the_newest_of_the_rows_up_to_the_block, newest_entry_is_the_newest_row,
     path_is_over_the_versions, rows_are_read_back, versions_stay_where_other_keys_are_added,
 };
-pub use skip_list::{EntryId, EntryList, Facts, Store};
+pub use skip_list::{Counter, EntryId, EntryList, Facts, Found, Steps, Store};
 pub use state_tree::{LeafList, LeafState, Tree, tree_hash};

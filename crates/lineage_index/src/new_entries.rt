@@ -10,15 +10,24 @@ ghost use Rattle.lineage_index.specs.{
   NewEntries.{AreUsing, IsNextRow, IsVersionOf, bytes_in, list_if_among},
 };
 
-use crate::counter::Steps;
 use crate::growing::{NewVersion, push_version};
 use crate::heads::index_of;
 use crate::newest_row::newest_entry_of;
 use forward_links::{OpenList, OpenLists};
 use lc_base::{Bytes, Key, Memory, Row};
-use skip_list::Store;
+use skip_list::{Counter, Steps, Store};
 use state_tree::Tree;
 use std::alloc::Global;
+
+/// The counter of the entries that are read when a version is added, which nobody asks for. Counts
+/// of it are begun in this file alone.
+struct Adding;
+
+impl Counter for Adding {
+    ghost use Rattle.std.specs.Prelude.{true};
+
+    ghost may_begin = { true };
+}
 
 /// The list that a new version of the key closes; an empty list if the key has no leaf.
 fn closed_by(tree: &Tree, lists: &OpenLists, key: &Key) -> OpenList
@@ -68,7 +77,7 @@ fn add_entry(
 {
     let version = new_version(tree, lists, row);
     let previous = newest_entry_of(tree, newest, &row.key);
-    let mut steps = Steps::new();
+    let mut steps = Steps::<Adding>::new();
     push_version(alloc, store, previous, version, body, &mut steps)?;
     Ok(())
 }

@@ -15,7 +15,17 @@ ghost use Rattle.lineage_index.specs.{
 ghost use Rattle.lineage_rewind.specs.LeavesAt.{next_with};
 
 use lc_base::Key;
-use lineage_index::{LineageIndex, Steps};
+use lineage_index::{Counter, LineageIndex, Steps};
+
+/// The counter of the entries that are read for an older root, which nobody asks for. Counts of it
+/// are begun in this file alone.
+struct OlderLeaves;
+
+impl Counter for OlderLeaves {
+    ghost use Rattle.std.specs.Prelude.{true};
+
+    ghost may_begin = { true };
+}
 
 /// The index of the last row of a key in a block up to `at`; `None` exactly if there is none.
 pub(crate) fn row_at(index: &LineageIndex, key: &Key, at: u32) -> Option<u32>
@@ -23,7 +33,7 @@ pub(crate) fn row_at(index: &LineageIndex, key: &Key, at: u32) -> Option<u32>
     ensures { (rows : List Row) (n : ℕ) → IsIndexOf rows n index.now
         → IsRowAt rows result (latest rows key.now at) }
 {
-    let mut steps = Steps::new();
+    let mut steps = Steps::<OlderLeaves>::new();
     index.latest_row(key, at, &mut steps)
 }
 

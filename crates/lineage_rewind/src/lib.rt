@@ -15,5 +15,6 @@ mod uses_at;
 pub use first_blocks::front;
 pub use leaves_at::tree_hash_at;
 pub use lineage_index::{
-    EntryId, EntryList, Facts, Header, LineageIndex, Steps, Store, Tree, check_row, root_digest,
+    Counter, EntryId, EntryList, Facts, Found, Header, LineageIndex, Steps, Store, Tree, check_row,
+    root_digest,
 };

@@ -18,18 +18,18 @@ ghost use Rattle.lineage_trace.specs.Finding.{IsButForDeps};
 
 use lc_base::{Dep, HostError, Key, Kind, Query};
 use lc_io::Scratch;
-use prov_query::{Lineage, Steps, answer};
+use prov_query::{Counter, Lineage, Steps, answer};
 use row_walks::{Derived, Wanted, derived_in, insert_found};
 use std::alloc::Global;
 
 /// The newest version of a key in the blocks up to `at`; `None` if there is none.
-pub(crate) fn look_up<S: Scratch>(
+pub(crate) fn look_up<C: Counter, S: Scratch>(
     alloc: Global,
     lineage: &mut Lineage,
     scratch: &mut S,
     key: &Key,
     at: u32,
-    steps: &mut Steps,
+    steps: &mut Steps<C>,
 ) -> Result<Option<Derived>, HostError>
     requires agrees { AgreesWith lineage.old (S.state scratch.old) }
     // If it is known which bytes the device holds:
@@ -55,13 +55,13 @@ pub(crate) fn look_up<S: Scratch>(
 }
 
 /// Inserts what a version was derived from directly.
-pub(crate) fn insert_deps_of<S: Scratch>(
+pub(crate) fn insert_deps_of<C: Counter, S: Scratch>(
     alloc: Global,
     lineage: &mut Lineage,
     scratch: &mut S,
     wanted: &mut Wanted,
     version: &Dep,
-    steps: &mut Steps,
+    steps: &mut Steps<C>,
 ) -> Result<(), HostError>
     requires agrees { AgreesWith lineage.old (S.state scratch.old) }
     // If it is known which bytes the device holds:

@@ -22,9 +22,19 @@ use crate::writing::write_trace;
 use answer_proof::prove;
 use lc_base::{Bytes, Dep, HostError, Key, Kind, Query};
 use lc_io::Scratch;
-use prov_query::{Lineage, QueryError, Steps};
+use prov_query::{Counter, Lineage, QueryError, Steps};
 use root_laws::Trace;
 use std::alloc::Global;
+
+/// The counter of the entries that are read for a proof, which nobody asks for. Counts of it are
+/// begun in this file alone.
+struct Proving;
+
+impl Counter for Proving {
+    ghost use Rattle.std.specs.Prelude.{true};
+
+    ghost may_begin = { true };
+}
 
 /// The bytes of the proof of what the version was derived from directly.
 fn start_bytes<S: Scratch>(
@@ -101,10 +111,10 @@ pub(crate) fn bytes_of_rows<S: Scratch>(
     // By this call contracts know that the rows are a ledger.
     let _rows = lineage.row_count();
     let start = start_bytes(alloc, lineage, scratch, key, at, root_at)?;
-    let mut steps = Steps::new();
+    let mut steps = Steps::<Proving>::new();
     let trace = trace_rows(alloc, lineage, scratch, key, at, &mut steps)?;
     let versions = from_last(alloc, trace);
-    let items = items_of(alloc, lineage, scratch, versions.as_slice())?;
+    let items = items_of(alloc, lineage, scratch, versions.as_slice(), &mut steps)?;
     let bytes = write_trace(alloc, start.as_bytes(), items.as_slice())?;
     Ok(bytes)
 }

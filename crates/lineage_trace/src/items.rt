@@ -17,15 +17,16 @@ use entry_views::body_of_bytes;
 use lc_base::{Dep, HostError};
 use lc_io::Scratch;
 use proof_checks::{TraceItem, TraceItemList};
-use prov_query::{Lineage, Steps};
+use prov_query::{Counter, Lineage, Steps};
 use std::alloc::Global;
 
 /// The header and the body of the row at an index.
-fn item_at<S: Scratch>(
+fn item_at<C: Counter, S: Scratch>(
     alloc: Global,
     lineage: &mut Lineage,
     scratch: &mut S,
     index: u32,
+    steps: &mut Steps<C>,
 ) -> Result<TraceItem, HostError>
     requires within { index < length lineage.old.rows }
     requires agrees { AgreesWith lineage.old (S.state scratch.old) }
@@ -40,19 +41,20 @@ fn item_at<S: Scratch>(
 {
     // All rows are typed, so their headers and bodies can be spelled.
     let _typed = lineage.row_count();
-    let header = lineage.header(index)?;
+    let header = lineage.header(index, steps)?;
     let bytes = lineage.body_of(scratch, EntryId(index))?;
     let body = body_of_bytes(alloc, &bytes)?;
     Ok(TraceItem { header, body })
 }
 
 /// Appends the header and the body of the version; nothing if the lineage has none up to its block.
-fn push_item<S: Scratch>(
+fn push_item<C: Counter, S: Scratch>(
     alloc: Global,
     lineage: &mut Lineage,
     scratch: &mut S,
     items: &mut TraceItemList,
     version: &Dep,
+    steps: &mut Steps<C>,
 ) -> Result<(), HostError>
     requires agrees { AgreesWith lineage.old (S.state scratch.old) }
     requires lawful { AllByRecursion IsTraceItem items.old }
@@ -66,11 +68,10 @@ fn push_item<S: Scratch>(
     ensures leaves { LeavesLineage S.state S.scratch_faults lineage.old scratch.old lineage.new
         scratch.new (IsErrOf result HostError.Fault) }
 {
-    let mut steps = Steps::new();
-    match lineage.latest_row(&version.key, version.block, &mut steps) {
+    match lineage.latest_row(&version.key, version.block, steps) {
         None => Ok(()),
         Some(index) => {
-            let item = item_at(alloc, lineage, scratch, index)?;
+            let item = item_at(alloc, lineage, scratch, index, steps)?;
             items.push(item)?;
             Ok(())
         }
@@ -78,11 +79,12 @@ fn push_item<S: Scratch>(
 }
 
 /// The headers and the bodies of versions, each the last of its key up to its block.
-pub(crate) fn items_of<S: Scratch>(
+pub(crate) fn items_of<C: Counter, S: Scratch>(
     alloc: Global,
     lineage: &mut Lineage,
     scratch: &mut S,
     versions: &[Dep],
+    steps: &mut Steps<C>,
 ) -> Result<TraceItemList, HostError>
     requires agrees { AgreesWith lineage.old (S.state scratch.old) }
     // If it is known which bytes the scratch device holds:
@@ -97,7 +99,7 @@ pub(crate) fn items_of<S: Scratch>(
 {
     let mut items = TraceItemList::new(alloc);
     for version in versions {
-        match push_item(alloc, lineage, scratch, &mut items, version) {
+        match push_item(alloc, lineage, scratch, &mut items, version, steps) {
             Ok(()) => {}
             Err(error) => return Err(error),
         }

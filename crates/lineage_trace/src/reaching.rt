@@ -21,18 +21,18 @@ ghost use Rattle.lineage_trace.specs.Counting.{RisesUpTo};
 use crate::finding::insert_deps_of;
 use lc_base::{Dep, DepList, HostError};
 use lc_io::Scratch;
-use prov_query::{Lineage, Steps};
+use prov_query::{Counter, Lineage, Steps};
 use row_walks::{Wanted, insert_all};
 use std::alloc::Global;
 
 /// The dependencies of a row and all that they were derived from, the last version first. There are
 /// at most as many as rows, whatever the bodies on the device say.
-pub(crate) fn reached<S: Scratch>(
+pub(crate) fn reached<C: Counter, S: Scratch>(
     alloc: Global,
     lineage: &mut Lineage,
     scratch: &mut S,
     deps: &[Dep],
-    steps: &mut Steps,
+    steps: &mut Steps<C>,
 ) -> Result<DepList, HostError>
     requires agrees { AgreesWith lineage.old (S.state scratch.old) }
     // If it is known which bytes the device holds:

@@ -33,7 +33,7 @@ use crate::finding::look_up;
 use crate::reaching::reached;
 use lc_base::{HostError, Key};
 use lc_io::Scratch;
-use prov_query::{Lineage, QueryError, Steps};
+use prov_query::{Counter, Lineage, QueryError, Steps};
 use root_laws::{Trace, trace_steps_are_few};
 use row_walks::reversed;
 use std::alloc::Global;
@@ -43,13 +43,13 @@ use std::alloc::Global;
 /// promised of the ancestors but that they are no more than rows. For each ancestor there is one
 /// lookup; `steps` rises by the number of versions that are looked at, also if the call fails. The
 /// rows stay; `Fault` exactly if a call of the device failed.
-pub fn trace_rows<S: Scratch>(
+pub fn trace_rows<C: Counter, S: Scratch>(
     alloc: Global,
     lineage: &mut Lineage,
     scratch: &mut S,
     key: &Key,
     at: u32,
-    steps: &mut Steps,
+    steps: &mut Steps<C>,
 ) -> Result<Option<Trace>, HostError>
     requires agrees { AgreesWith lineage.old (S.state scratch.old) }
     // If it is known which bytes the device holds:
@@ -95,13 +95,13 @@ pub fn trace_rows<S: Scratch>(
 /// versions that are looked at, also if the device fails or memory runs out. With `N` ancestors it
 /// never rises by more than `(N + 1) * (2 * B + 2)`, where `B` is the number of binary digits of
 /// the last block's number. The lineage stays as it was, but for the bodies at hand.
-pub fn trace<S: Scratch>(
+pub fn trace<C: Counter, S: Scratch>(
     alloc: Global,
     lineage: &mut Lineage,
     scratch: &mut S,
     key: &Key,
     at: u32,
-    steps: &mut Steps,
+    steps: &mut Steps<C>,
 ) -> Result<Option<Trace>, QueryError>
     requires agrees { AgreesWith lineage.old (S.state scratch.old) }
     // If it is known which bytes the device holds:

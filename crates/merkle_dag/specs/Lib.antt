@@ -1,6 +1,7 @@
 pub mod Ledger
 pub mod Questions
 pub mod Lineage
+pub mod Places
 pub mod Staying
 pub mod Kept
 pub mod Adding

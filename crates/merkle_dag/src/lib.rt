@@ -6,6 +6,7 @@ mod adding;
 mod kept;
 mod limits;
 mod lineage;
+mod places;
 mod query_error;
 mod rewinding;
 mod root;
@@ -13,5 +14,5 @@ mod uses;
 
 pub use limits::MAX_LINEAGE_BLOCKS;
 pub use lineage::Lineage;
-pub use lineage_rewind::{EntryId, Steps};
+pub use lineage_rewind::{Counter, EntryId, Found, Steps};
 pub use query_error::QueryError;

@@ -19,10 +19,12 @@ ghost use Rattle.std.specs.{
     take,
     IfErr,
     IfOk,
+    IfSome,
     IsErrOf,
     MatchOption,
   },
   List.{All},
+  Option.{option_map},
   Rc.{rc_slice_items},
 };
 ghost use Rattle.lc_base.specs.{
@@ -32,6 +34,7 @@ ghost use Rattle.lc_base.specs.{
 };
 ghost use Rattle.lc_io.specs.Scratch.{ScratchState, is_known, Retains};
 ghost use Rattle.skip_links.specs.Paths.{path};
+ghost use Rattle.skip_list.specs.{declared.lookup.Found.{Found}, Lookups.{IsPrevious}};
 ghost use Rattle.lineage_rewind.specs.{
   plain_rows.Places.{IsRowAt},
   entry_store.Steps.{raised_count},
@@ -57,7 +60,9 @@ use crate::uses::{nth_version, users_of, versions_at};
 use body_store::Bodies;
 use lc_base::{Dep, DepList, Digest, HostError, Key, Memory, Resources, RowList};
 use lc_io::Scratch;
-use lineage_rewind::{EntryId, EntryList, Facts, Header, LineageIndex, Steps, Store, Tree};
+use lineage_rewind::{
+    Counter, EntryId, EntryList, Facts, Found, Header, LineageIndex, Steps, Store, Tree,
+};
 use std::marker::Model;
 use std::rc::RcSlice;
 
@@ -274,10 +279,25 @@ impl Lineage {
         self.kept.index.closed_list(index)
     }
 
+    /// The entry of the last row of the key in a block up to `at`, with the link to that of the
+    /// key's row before it; `None` exactly if there is no such row. The entry's id is the index of
+    /// the row. `steps` rises by the number of the versions of the key that are looked at, also if
+    /// none of them is found.
+    pub fn latest<C: Counter>(&self, key: &Key, at: u32, steps: &mut Steps<C>) -> Option<Found>
+        ensures latest { IsRowAt self.now.rows (option_map (λ (found : Found). found.id.0) result)
+            (latest self.now.rows key.now at) }
+        ensures previous { IfSome result (λ (found : Found).
+            IsPrevious (entries_of self.now.rows self.now.rows) found.id found.previous) }
+        ensures count { steps.new ≡ raised_count steps.old (length (path self.now.rows key.now at)) }
+        ensures few { steps.new ≤ steps.old + most_looked_at self.now.digests }
+    {
+        self.kept.index.latest(key, at, steps)
+    }
+
     /// The index of the last row of the key in a block up to `at`; `None` exactly if there is none.
     /// `steps` rises by the number of the versions of the key that are looked at, also if none of
     /// them is found.
-    pub fn latest_row(&self, key: &Key, at: u32, steps: &mut Steps) -> Option<u32>
+    pub fn latest_row<C: Counter>(&self, key: &Key, at: u32, steps: &mut Steps<C>) -> Option<u32>
         ensures latest { IsRowAt self.now.rows result (latest self.now.rows key.now at) }
         ensures count { steps.new ≡ raised_count steps.old (length (path self.now.rows key.now at)) }
         ensures few { steps.new ≤ steps.old + most_looked_at self.now.digests }
@@ -286,22 +306,28 @@ impl Lineage {
     }
 
     /// The entries of the rows of the key that `latest_row` looks at, from the newest one on; the
-    /// id of a row's entry is the row's index.
-    pub fn path(&self, key: &Key, at: u32) -> Result<EntryList, Memory>
-        ensures { IfOk result (AreEntriesIn self.now.rows key.now (path self.now.rows key.now at)) }
+    /// id of a row's entry is the row's index. `steps` rises by their number.
+    pub fn path<C: Counter>(
+        &self,
+        key: &Key,
+        at: u32,
+        steps: &mut Steps<C>,
+    ) -> Result<EntryList, Memory>
+        ensures path { IfOk result
+            (AreEntriesIn self.now.rows key.now (path self.now.rows key.now at)) }
+        ensures count { IfOk result (λ ids. steps.new ≡ raised_count steps.old (length ids)) }
     {
-        let mut steps = Steps::new();
-        self.kept.index.path(key, at, &mut steps)
+        self.kept.index.path(key, at, steps)
     }
 
-    /// The header of the row at an index.
-    pub fn header(&self, index: u32) -> Result<Header, Memory>
+    /// The header of the row at an index. It looks at that version alone.
+    pub fn header<C: Counter>(&self, index: u32, steps: &mut Steps<C>) -> Result<Header, Memory>
         requires { index < length self.now.rows }
-        ensures { (row : Row) → slice_get self.now.rows index ≡ Some row
+        ensures row { (row : Row) → slice_get self.now.rows index ≡ Some row
             → IfOk result (λ header. header ≡ header_of self.now.rows row) }
+        ensures step { steps.new ≡ raised_count steps.old 1 }
     {
-        let alloc = *self.kept.digests.allocator();
-        self.kept.index.header(index)
+        self.kept.index.header(index, steps)
     }
 
     /// Where the row at an index is in the history: its key, its block and its transaction.

@@ -1,7 +1,10 @@
 //! Headers are checked once, when the list is read, and the block of the last one is kept;
 //! afterwards each can be read again from the same bytes.
 
-ghost use Rattle.std.specs.Prelude.{◌≡◌, ◌∷◌, [], length, IfOk, MatchOption};
+ghost use Rattle.std.specs.{
+  Prelude.{◌≡◌, ◌∷◌, [], length, slice_get, IfOk, MatchOption},
+  Option.{option_map},
+};
 ghost use Rattle.entry_views.specs.{
   byte_fields.Reader.{fault_left, Reads, ReadsAs},
   byte_fields.Reading.{items_at},
@@ -82,6 +85,20 @@ impl<'p> HeadersView<'p> {
             }
             Err(_) => None,
         }
+    }
+
+    /// The header at an index, from 0; `None` exactly past the end. All before it are read.
+    pub fn get(&self, i: usize) -> Option<HeaderView<'p>>
+        ensures { option_map (λ header. header.value) result ≡ slice_get self.now i }
+    {
+        let mut rest = self.again();
+        for _ in 0..i {
+            match rest.next() {
+                None => return None,
+                Some(_) => {}
+            }
+        }
+        rest.next()
     }
 }
 

@@ -14,12 +14,13 @@ ghost use Rattle.proof_codec.specs.{
   Viewing.{Spells, proof_in, told_at},
 };
 
+use crate::audit_view::AuditView;
 use crate::front::front;
 use crate::headers_view::{HeadersView, read_headers};
 use crate::leaf_proof_view::{LeafProofView, read_leaf_proof};
 use crate::use_view::{UseView, read_uses};
-use entry_views::{BodyView, Fault, Reader};
-use lc_base::{Kind, Query};
+use entry_views::{BodyView, Fault, LeafView, Reader};
+use lc_base::{Digest, Kind, Query};
 use std::marker::Model;
 
 /// Why bytes aren't a proof.
@@ -67,6 +68,48 @@ impl<'p> ProofView<'p> {
         ensures { result.now ≡ self.now.leaf_proof }
     {
         &self.leaf_proof
+    }
+
+    /// The block of the root.
+    pub fn root_at(&self) -> u32
+        ensures { result ≡ self.now.leaf_proof.root_at }
+    {
+        self.leaf_proof.place().root_at
+    }
+
+    /// The digest of the root's block.
+    pub fn block_digest(&self) -> Digest
+        ensures { result ≡ self.now.leaf_proof.block_digest }
+    {
+        self.leaf_proof.place().block_digest
+    }
+
+    /// The number of leaves of the tree.
+    pub fn leaf_count(&self) -> u32
+        ensures { result ≡ self.now.leaf_proof.leaf_count }
+    {
+        self.leaf_proof.place().leaf_count
+    }
+
+    /// The index of the leaf that covers the key, from 0.
+    pub fn leaf_index(&self) -> u32
+        ensures { result ≡ self.now.leaf_proof.leaf_index }
+    {
+        self.leaf_proof.place().leaf_index
+    }
+
+    /// The leaf that covers the key.
+    pub fn leaf(&self) -> &LeafView<'p>
+        ensures { result.now.value ≡ self.now.leaf_proof.leaf }
+    {
+        self.leaf_proof.leaf()
+    }
+
+    /// The audit path of the leaf.
+    pub fn audit(&self) -> AuditView<'p>
+        ensures { result ≡ self.now.leaf_proof.audit }
+    {
+        self.leaf_proof.audit()
     }
 
     /// The headers, the newest first.

@@ -1,5 +1,5 @@
 -- For each input there is exactly one verification, and the functions return it.
-use Rattle.std.proofs.Common.{◌≡◌, ◌∙◌, ℕ, ◌%◌, List, length, slice_index, Option, Result, Ok, Err}
+use Rattle.std.proofs.Common.{◌≡◌, ◌∙◌, ℕ, ◌%◌, List, length, Result, Ok, Err}
 use Rattle.std.proofs.Common.{IfOk, inl, inr, refl, sym, ap, subst, arith}
 use Rattle.std.proofs.lemmas.Bool.{cases_eq}
 use Rattle.hex.specs.Hex.{decode_of}
@@ -12,6 +12,8 @@ use Rattle.proof_commands.proofs.Verified.{found_first, first_decoded}
 use Rattle.proof_checks.specs.declared.trace_proof.TraceProof.{TraceProof}
 use Rattle.proof_checks.specs.TraceSpelling.{SpellsTrace}
 use Rattle.trace_verifier.specs.Reading.{trace_in}
+use Rattle.trace_verifier.specs.Malformed.{IsInvalidAt}
+use Rattle.trace_verifier.proofs.Malformed.{is_invalid, one_offset}
 use Rattle.trace_verifier.proofs.Viewed.{is_spelled, is_read}
 use Rattle.trace_verifier.specs.Verdicts.{verdict_of_read, trace_verdict_on}
 use Rattle.proof_commands.specs.declared.trace_verification.TraceVerification.{TraceVerification}
@@ -20,6 +22,18 @@ use Rattle.proof_commands.specs.TraceVerifying.{of_trace_verdict, of_decoded_tra
 use Rattle.proof_commands.specs.TraceVerifying.{trace_verification}
 use Rattle.proof_commands.specs.TraceVerifying.{IsTraceVerification, OddDigits, NoDigit, NoTrace}
 use Rattle.proof_commands.specs.TraceVerifying.{Judged}
+
+abbrev malformed : ℕ → Result TraceProof ℕ
+malformed offset = Err offset
+
+-- The reader tells the only offset at which bytes are invalid that aren't a proof of ancestors.
+unread : (bytes : List ℕ) → IsBytes bytes → ((trace : TraceProof) → SpellsTrace bytes trace → ⊥)
+    → (offset : ℕ) → IsInvalidAt bytes offset → (r : Result TraceProof ℕ) → trace_in bytes ≡ r
+    → r ≡ Err offset
+unread bytes fits none offset is (Ok trace) read =
+    absurd (none trace (is_spelled bytes trace fits read))
+unread bytes fits none offset is (Err other) read =
+    ap malformed (one_offset bytes other offset (is_invalid bytes other fits read) is)
 
 module _ (root key : List ℕ) (at : ℕ) (input : List ℕ) where
   -- ---- what the functions return is a verification
@@ -31,7 +45,8 @@ module _ (root key : List ℕ) (at : ℕ) (input : List ℕ) where
       Judged bytes decoded trace (is_spelled bytes trace fits read)
   by_reading bytes decoded fits (Err offset) read =
       NoTrace bytes decoded
-      (λ trace is. let other = is_read bytes trace is in absurd cc) offset read
+      (λ trace is. let other = is_read bytes trace is in absurd cc) offset
+      (is_invalid bytes offset fits read)
 
   by_digit : (error : FromHexError) → decode_of (hex_text input) ≡ Err error
       → length (hex_text input) % 2 ≡ 0
@@ -79,7 +94,9 @@ module _ (root key : List ℕ) (at : ℕ) (input : List ℕ) where
   only_told _ (OddDigits odd) = sym (ap after (decode_of-odd (hex_text input) odd))
   only_told _ (NoDigit offset is) =
       sym (ap after (first_decoded (hex_text input) offset is (decode_of (hex_text input)) refl))
-  only_told _ (NoTrace bytes decoded none offset read) =
+  only_told _ (NoTrace bytes decoded none offset is) =
+      let fits = (decode_of-ok (hex_text input) bytes decoded).3 in
+      let read = unread bytes fits none offset is (trace_in bytes) refl in
       sym (ap after decoded ∙ ap after_reading read)
   only_told _ (Judged bytes decoded trace is) =
       sym (ap after decoded ∙ ap after_reading (is_read bytes trace is))

@@ -10,7 +10,7 @@ use Rattle.proof_checks.specs.declared.range_reject.RangeReject.{RangeReject}
 use Rattle.proof_checks.specs.declared.range_reject.RangeReject.TheVariants.{Malformed}
 use Rattle.proof_checks.specs.RangeChecks.{range_verdict}
 use Rattle.proof_checks.specs.RangeSpelling.{SpellsRange}
-use Rattle.range_verifier.specs.Reading.{range_in}
+use Rattle.range_verifier.specs.Reading.{IsInvalidAt}
 use Rattle.range_verifier.specs.Verdicts.{range_verdict_on}
 use Rattle.proof_commands.specs.declared.range_verification.RangeVerification.{RangeVerification}
 use Rattle.proof_commands.specs.declared.range_verification.RangeVerification.TheVariants.{Shown}
@@ -34,7 +34,7 @@ pub data IsRangeVerification (root key : List ℕ) (from to : ℕ) (input : List
       → IsRangeVerification root key from to input (BadHex (At offset))
   NoRange : (bytes : List ℕ) → decode_of (hex_text input) ≡ Ok bytes
       → ((range : RangeProof) → SpellsRange bytes range → ⊥)
-      → (offset : ℕ) → range_in bytes ≡ Err offset
+      → (offset : ℕ) → IsInvalidAt bytes offset
       → IsRangeVerification root key from to input (Rejected (Malformed offset))
   Judged : (bytes : List ℕ) → decode_of (hex_text input) ≡ Ok bytes
       → (range : RangeProof) → SpellsRange bytes range

@@ -10,7 +10,7 @@ use Rattle.proof_checks.specs.declared.trace_reject.TraceReject.{TraceReject}
 use Rattle.proof_checks.specs.declared.trace_reject.TraceReject.TheVariants.{Malformed}
 use Rattle.proof_checks.specs.TraceChecks.{trace_verdict}
 use Rattle.proof_checks.specs.TraceSpelling.{SpellsTrace}
-use Rattle.trace_verifier.specs.Reading.{trace_in}
+use Rattle.trace_verifier.specs.Malformed.{IsInvalidAt}
 use Rattle.trace_verifier.specs.Verdicts.{trace_verdict_on}
 use Rattle.proof_commands.specs.declared.trace_verification.TraceVerification.{TraceVerification}
 use Rattle.proof_commands.specs.declared.trace_verification.TraceVerification.TheVariants.{Shown}
@@ -34,7 +34,7 @@ pub data IsTraceVerification (root key : List ℕ) (at : ℕ) (input : List ℕ)
       → IsTraceVerification root key at input (BadHex (At offset))
   NoTrace : (bytes : List ℕ) → decode_of (hex_text input) ≡ Ok bytes
       → ((trace : TraceProof) → SpellsTrace bytes trace → ⊥)
-      → (offset : ℕ) → trace_in bytes ≡ Err offset
+      → (offset : ℕ) → IsInvalidAt bytes offset
       → IsTraceVerification root key at input (Rejected (Malformed offset))
   Judged : (bytes : List ℕ) → decode_of (hex_text input) ≡ Ok bytes
       → (trace : TraceProof) → SpellsTrace bytes trace

@@ -27,7 +27,7 @@ fn verify_bytes(
     match verify_trace(alloc, root, key, at, proof) {
         Ok(shown) => Ok(TraceVerification::Shown(shown)),
         Err(TraceError::Rejected(reject)) => Ok(TraceVerification::Rejected(reject)),
-        Err(TraceError::Memory) => Err(Memory),
+        Err(TraceError::WantedMemory { .. } | TraceError::Memory) => Err(Memory),
     }
 }
 

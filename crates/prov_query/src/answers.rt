@@ -26,7 +26,7 @@ use crate::found::Found;
 use entry_views::{deps_of_bytes, value_of_bytes};
 use lc_base::{Answer, HostError, Kind, Query};
 use lc_io::Scratch;
-use merkle_dag::{Lineage, Steps};
+use merkle_dag::{Counter, Lineage, Steps};
 use std::alloc::Global;
 
 /// The answer about the row at an index. A question of its uses is answered without its body.
@@ -70,12 +70,12 @@ fn about<S: Scratch>(
 /// bytes the device holds, nothing is promised of the value and of the dependencies, and of all
 /// else as much as if it were. The count rises by the number of the versions of the key that are
 /// looked at, also if the call fails. The rows stay; `Fault` exactly if a call of the device failed.
-pub fn answer<S: Scratch>(
+pub fn answer<C: Counter, S: Scratch>(
     alloc: Global,
     lineage: &mut Lineage,
     scratch: &mut S,
     query: &Query,
-    steps: &mut Steps,
+    steps: &mut Steps<C>,
 ) -> Result<Answer, HostError>
     requires agrees { AgreesWith lineage.old (S.state scratch.old) }
     ensures answer { is_known (S.state scratch.old) ≡ true

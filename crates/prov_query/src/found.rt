@@ -7,7 +7,7 @@ ghost use Rattle.merkle_dag.specs.Lineage.{AgreesWith, LeavesLineage};
 
 use lc_base::{HostError, Key};
 use lc_io::Scratch;
-use merkle_dag::{EntryId, Lineage, Steps};
+use merkle_dag::{Counter, EntryId, Lineage, Steps};
 use std::rc::RcSlice;
 
 /// A version: the number of its block, the index of its transaction there, and the bytes of its
@@ -49,11 +49,12 @@ impl Found {
     }
 
     /// The newest version of a key in the blocks up to `at`; `None` if there is none.
-    pub(crate) fn latest<S: Scratch>(
+    pub(crate) fn latest<C: Counter, S: Scratch>(
         lineage: &mut Lineage,
         scratch: &mut S,
         key: &Key,
         at: u32,
+        steps: &mut Steps<C>,
     ) -> Result<Option<Found>, HostError>
         requires agrees { AgreesWith lineage.old (S.state scratch.old) }
         ensures found { is_known (S.state scratch.old) ≡ true
@@ -62,8 +63,7 @@ impl Found {
         ensures leaves { LeavesLineage S.state S.scratch_faults lineage.old scratch.old lineage.new
             scratch.new (IsErrOf result HostError.Fault) }
     {
-        let mut steps = Steps::new();
-        match lineage.latest_row(key, at, &mut steps) {
+        match lineage.latest_row(key, at, steps) {
             None => Ok(None),
             Some(index) => match Found::at(lineage, scratch, index) {
                 Ok(found) => Ok(Some(found)),

@@ -26,8 +26,18 @@ use crate::parts::{fwd_at, fwd_count};
 use entry_views::{dep_count_of_bytes, dep_of_bytes, value_of_bytes};
 use lc_base::{Dep, Host, HostError, Key, Kind, Version};
 use lc_io::Scratch;
-use merkle_dag::Lineage;
+use merkle_dag::{Counter, Lineage, Steps};
 use std::alloc::Global;
+
+/// The counter of the entries that are read for a contract that runs, which nobody asks for. Counts
+/// of it are begun in this file alone.
+struct Running;
+
+impl Counter for Running {
+    ghost use Rattle.std.specs.Prelude.{true};
+
+    ghost may_begin = { true };
+}
 
 /// A lineage, lent together with the device that keeps its bodies.
 #[derive(Drop)]
@@ -56,7 +66,8 @@ impl<'a, S: Scratch> Host for Reading<'a, S> {
         ensures cause { HasCause (S.scratch_faults self.old.scratch.now)
             (S.scratch_faults self.new.scratch.now) (IsErrOf result HostError.Fault) }
     {
-        match Found::latest(self.lineage, self.scratch, key, at)? {
+        let mut steps = Steps::<Running>::new();
+        match Found::latest(self.lineage, self.scratch, key, at, &mut steps)? {
             None => Ok(None),
             Some(Found { block, tx, body }) => {
                 let value = value_of_bytes(alloc, &body)?;
@@ -77,7 +88,8 @@ impl<'a, S: Scratch> Host for Reading<'a, S> {
         ensures cause { HasCause (S.scratch_faults self.old.scratch.now)
             (S.scratch_faults self.new.scratch.now) (IsErrOf result HostError.Fault) }
     {
-        match Found::latest(self.lineage, self.scratch, key, at)? {
+        let mut steps = Steps::<Running>::new();
+        match Found::latest(self.lineage, self.scratch, key, at, &mut steps)? {
             None => Ok(None),
             Some(found) => Ok(Some(dep_count_of_bytes(&found.body))),
         }
@@ -95,7 +107,8 @@ impl<'a, S: Scratch> Host for Reading<'a, S> {
         ensures cause { HasCause (S.scratch_faults self.old.scratch.now)
             (S.scratch_faults self.new.scratch.now) (IsErrOf result HostError.Fault) }
     {
-        match Found::latest(self.lineage, self.scratch, key, at)? {
+        let mut steps = Steps::<Running>::new();
+        match Found::latest(self.lineage, self.scratch, key, at, &mut steps)? {
             None => Ok(None),
             Some(found) => Ok(dep_of_bytes(&found.body, index)),
         }
@@ -112,7 +125,8 @@ impl<'a, S: Scratch> Host for Reading<'a, S> {
         ensures cause { HasCause (S.scratch_faults self.old.scratch.now)
             (S.scratch_faults self.new.scratch.now) (IsErrOf result HostError.Fault) }
     {
-        Ok(fwd_count(self.lineage, key, at))
+        let mut steps = Steps::<Running>::new();
+        Ok(fwd_count(self.lineage, key, at, &mut steps))
     }
 
     fn fwd_at(&mut self, key: &Key, at: u32, index: u64) -> Result<Option<Dep>, HostError>
@@ -125,7 +139,8 @@ impl<'a, S: Scratch> Host for Reading<'a, S> {
         ensures cause { HasCause (S.scratch_faults self.old.scratch.now)
             (S.scratch_faults self.new.scratch.now) (IsErrOf result HostError.Fault) }
     {
-        Ok(fwd_at(self.lineage, key, at, index))
+        let mut steps = Steps::<Running>::new();
+        Ok(fwd_at(self.lineage, key, at, index, &mut steps))
     }
 
     ghost same_refl = { λ s. (refl, refl, stays_refl s.lineage.now (S.state s.scratch.now)) };

@@ -11,5 +11,5 @@ mod questions;
 
 pub use answers::answer;
 pub use host::Reading;
-pub use merkle_dag::{Lineage, QueryError, Steps};
+pub use merkle_dag::{Counter, Lineage, QueryError, Steps};
 pub use questions::ask;

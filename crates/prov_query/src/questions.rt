@@ -14,7 +14,7 @@ ghost use Rattle.merkle_dag.specs.{
 use crate::answers::answer;
 use lc_base::{Answer, Query};
 use lc_io::Scratch;
-use merkle_dag::{Lineage, QueryError, Steps};
+use merkle_dag::{Counter, Lineage, QueryError, Steps};
 use std::alloc::Global;
 
 /// The answer to a question about the blocks up to the one that it names. If it is not known which
@@ -24,12 +24,12 @@ use std::alloc::Global;
 /// looked at: those of the path, also if the device fails or memory runs out, and none past the
 /// last block. It never rises by more than `2 * B + 2`, where `B` is the number of binary digits of
 /// the last block's number.
-pub fn ask<S: Scratch>(
+pub fn ask<C: Counter, S: Scratch>(
     alloc: Global,
     lineage: &mut Lineage,
     scratch: &mut S,
     query: &Query,
-    steps: &mut Steps,
+    steps: &mut Steps<C>,
 ) -> Result<Answer, QueryError>
     requires agrees { AgreesWith lineage.old (S.state scratch.old) }
     ensures answered { is_known (S.state scratch.old) ≡ true

@@ -203,6 +203,29 @@ version_before rows entries index from own row lawful are read at =
     (newest (below rows row.block) row.key))
     (sym (links_are rows entries index row own are at read)) (leads rows index row lawful at))
 
+-- The same, where only the lowest link is known.
+pub link_before : (rows : List Row) (index from : ℕ) (previous : Option Hop) (row : Row)
+    → IsLawful rows
+    → option_map (λ (entry : Entry). slice_get entry.links.hops 0)
+    (slice_get (entries_of rows rows) index) ≡ Some previous
+    → slice_get rows index ≡ Some row
+    → IsRowAt rows (index_unless_before from previous)
+    (unless_before from (newest (below rows row.block) row.key))
+link_before rows index from previous row lawful read at =
+    on (slice_get (entries_of rows rows) index) refl read
+  where
+    on : (entry : Option Entry) → slice_get (entries_of rows rows) index ≡ entry
+        → option_map (λ (e : Entry). slice_get e.links.hops 0) entry ≡ Some previous
+        → IsRowAt rows (index_unless_before from previous)
+        (unless_before from (newest (below rows row.block) row.key))
+    on None is read = absurd (none-some previous read)
+    on (Some entry) is read =
+        subst (λ (link : Option Hop). IsRowAt rows (index_unless_before from link)
+        (unless_before from (newest (below rows row.block) row.key)))
+        (same_Some (slice_get entry.links.hops 0) previous read)
+        (version_before rows (entries_of rows rows) index from entry.links row lawful refl
+        (ap (option_map (λ (e : Entry). e.links)) is) at)
+
 -- Links lead back.
 pub leads_back : (hops : List Hop) (from bound : ℕ)
     → All (λ (hop : Hop). hop.id.0 < bound) hops

@@ -10,19 +10,19 @@ ghost use Rattle.range_proof.specs.Finding.{AreRowsAt};
 use crate::going_back::{last, previous};
 use lc_base::{Key, Memory};
 use plain_rows::IndexList;
-use prov_query::{Lineage, Steps};
+use prov_query::{Counter, Lineage, Steps};
 use std::alloc::Global;
 
 /// The indexes of the rows of the versions of a key in the blocks from `from` to `to`, the last one
 /// first. The count rises by the number of the versions that are looked at: those on the path of
 /// the lookup of the last one up to `to`, and each further one in the range once.
-pub fn indexes_between(
+pub fn indexes_between<C: Counter>(
     alloc: Global,
     lineage: &Lineage,
     key: &Key,
     from: u32,
     to: u32,
-    steps: &mut Steps,
+    steps: &mut Steps<C>,
 ) -> Result<IndexList, Memory>
     ensures between { IfOk result (λ indexes. AreRowsAt lineage.now.rows indexes
         (reverse (rows_between lineage.now.rows key.now from to))) }
@@ -42,10 +42,8 @@ pub fn indexes_between(
     let Some(last) = last(lineage, key, from, to, steps) else {
         return Ok(found);
     };
-    found.push(last)?;
-    // The last one was counted on the path to it.
-    let mut counted = Steps::new();
-    let mut next = previous(lineage, last, from, &mut counted);
+    found.push(last.index)?;
+    let mut next = last.previous;
     while let Some(index) = next {
         found.push(index)?;
         next = previous(lineage, index, from, steps);

@@ -23,8 +23,18 @@ use lc_base::{Bytes, HostError, Memory};
 use lc_io::Scratch;
 use proof_checks::made_ranges_are_proofs;
 use proof_codec::put_leaf_proof;
-use prov_query::{Lineage, Steps};
+use prov_query::{Counter, Lineage, Steps};
 use std::alloc::Global;
+
+/// The counter of the entries that are read for a proof, which nobody asks for. Counts of it are
+/// begun in this file alone.
+struct Proving;
+
+impl Counter for Proving {
+    ghost use Rattle.std.specs.Prelude.{true};
+
+    ghost may_begin = { true };
+}
 
 /// All indexes but the first one.
 fn after_first(indexes: &[u32]) -> &[u32]
@@ -39,12 +49,13 @@ fn after_first(indexes: &[u32]) -> &[u32]
 /// Appends all that comes before the bodies. `between` are the indexes of the rows of the versions
 /// between the blocks, the last one first; that one ends the path of the lookup, if there is one,
 /// so its header is on the path.
-fn put_before_bodies(
+fn put_before_bodies<C: Counter>(
     alloc: Global,
     lineage: &Lineage,
     out: &mut Vec<u8>,
     asked: &Asked,
     between: &[u32],
+    steps: &mut Steps<C>,
 ) -> Result<(), Memory>
     requires last { asked.now.root_at + 1 ≡ length lineage.now.digests }
     requires digest { slice_get lineage.now.digests asked.now.root_at
@@ -63,11 +74,11 @@ fn put_before_bodies(
     let _key = asked.key.as_bytes();
     made_ranges_are_proofs();
     let leaf_proof = leaf_proof_of(lineage, asked)?;
-    let path = lineage.path(&asked.key, asked.to)?;
+    let path = lineage.path(&asked.key, asked.to, steps)?;
     let further = after_first(between);
     put_front(out, asked)?;
     put_leaf_proof(alloc, out, &leaf_proof)?;
-    put_headers(alloc, lineage, out, path.as_slice(), further)?;
+    put_headers(alloc, lineage, out, path.as_slice(), further, steps)?;
     Ok(())
 }
 
@@ -100,11 +111,11 @@ pub(crate) fn bytes_of_rows<S: Scratch>(
     let _rows = lineage.row_count();
     let _key = asked.key.as_bytes();
     made_ranges_are_proofs();
-    let mut steps = Steps::new();
+    let mut steps = Steps::<Proving>::new();
     let found = indexes_between(alloc, lineage, &asked.key, asked.from, asked.to, &mut steps)?;
     let between = found.as_slice();
     let mut out = Vec::new(alloc);
-    put_before_bodies(alloc, lineage, &mut out, asked, between)?;
+    put_before_bodies(alloc, lineage, &mut out, asked, between, &mut steps)?;
     put_bodies(alloc, lineage, scratch, &mut out, between)?;
     Ok(Bytes::from_vec(out))
 }

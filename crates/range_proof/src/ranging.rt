@@ -16,7 +16,7 @@ use crate::reading::versions_at;
 use lc_base::{HostError, Key, VersionList};
 use lc_io::Scratch;
 use plain_rows::IndexList;
-use prov_query::{Lineage, QueryError, Steps};
+use prov_query::{Counter, Lineage, QueryError, Steps};
 use std::alloc::Global;
 
 /// The indexes in the opposite order.
@@ -29,14 +29,14 @@ fn reversed(indexes: IndexList) -> IndexList
 }
 
 /// The versions of a key from one block to another over all rows of a lineage.
-fn range_rows<S: Scratch>(
+fn range_rows<C: Counter, S: Scratch>(
     alloc: Global,
     lineage: &mut Lineage,
     scratch: &mut S,
     key: &Key,
     from: u32,
     to: u32,
-    steps: &mut Steps,
+    steps: &mut Steps<C>,
 ) -> Result<VersionList, HostError>
     requires agrees { AgreesWith lineage.old (S.state scratch.old) }
     // If it is known which bytes the device holds:
@@ -69,14 +69,14 @@ fn range_rows<S: Scratch>(
 /// It never rises by more, also if the device fails or memory runs out. That is at most
 /// `2 * B + 2` besides the versions between the blocks, where `B` is the number of binary digits of
 /// the last block's number. The lineage stays as it was, but for the bodies at hand.
-pub fn range<S: Scratch>(
+pub fn range<C: Counter, S: Scratch>(
     alloc: Global,
     lineage: &mut Lineage,
     scratch: &mut S,
     key: &Key,
     from: u32,
     to: u32,
-    steps: &mut Steps,
+    steps: &mut Steps<C>,
 ) -> Result<VersionList, QueryError>
     requires agrees { AgreesWith lineage.old (S.state scratch.old) }
     requires ordered { from ≤ to }

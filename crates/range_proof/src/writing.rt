@@ -27,7 +27,7 @@ use lc_base::{HostError, Memory};
 use lc_io::Scratch;
 use proof_checks::RANGE_MAGIC;
 use prov_entry::{write_body, write_header};
-use prov_query::Lineage;
+use prov_query::{Counter, Lineage, Steps};
 use std::alloc::Global;
 
 /// Appends the magic bytes, the key, the first block and the last one.
@@ -42,61 +42,70 @@ pub(crate) fn put_front(out: &mut Vec<u8>, asked: &Asked) -> Result<(), Memory>
 }
 
 /// Appends the header of the row at an index.
-fn put_header(alloc: Global, lineage: &Lineage, out: &mut Vec<u8>, index: u32) -> Result<(), Memory>
+fn put_header<C: Counter>(
+    alloc: Global,
+    lineage: &Lineage,
+    out: &mut Vec<u8>,
+    index: u32,
+    steps: &mut Steps<C>,
+) -> Result<(), Memory>
     requires { index < length lineage.now.rows }
     ensures { OnOk result (out.new.items ≡ out.old.items
         ++ concat (header_fields_at lineage.now.rows index)) }
 {
     // All rows are typed, so their headers can be spelled.
     let _typed = lineage.row_count();
-    let header = lineage.header(index)?;
+    let header = lineage.header(index, steps)?;
     let bytes = write_header(alloc, &header)?;
     out.extend_from_slice(bytes.as_bytes())?;
     Ok(())
 }
 
 /// Appends the headers of the rows of entries, one after another.
-fn put_path(
+fn put_path<C: Counter>(
     alloc: Global,
     lineage: &Lineage,
     out: &mut Vec<u8>,
     path: &[EntryId],
+    steps: &mut Steps<C>,
 ) -> Result<(), Memory>
     requires { AreEntriesWithin lineage.now.rows path.now }
     ensures { OnOk result (out.new.items ≡ out.old.items
         ++ concat (flat_map (λ (id : Id). header_fields_at lineage.now.rows id.0) path.now)) }
 {
     for id in path {
-        put_header(alloc, lineage, out, id.0)?;
+        put_header(alloc, lineage, out, id.0, steps)?;
     }
     Ok(())
 }
 
 /// Appends the headers of the rows at indexes, one after another.
-fn put_further(
+fn put_further<C: Counter>(
     alloc: Global,
     lineage: &Lineage,
     out: &mut Vec<u8>,
     further: &[u32],
+    steps: &mut Steps<C>,
 ) -> Result<(), Memory>
     requires { AreWithin lineage.now.rows further.now }
     ensures { OnOk result (out.new.items ≡ out.old.items
         ++ concat (flat_map (header_fields_at lineage.now.rows) further.now)) }
 {
     for index in further {
-        put_header(alloc, lineage, out, *index)?;
+        put_header(alloc, lineage, out, *index, steps)?;
     }
     Ok(())
 }
 
 /// Appends the number of headers in four bytes, and the headers: those on the path of the lookup,
 /// by their entries, and the further ones, by the indexes of their rows.
-pub(crate) fn put_headers(
+pub(crate) fn put_headers<C: Counter>(
     alloc: Global,
     lineage: &Lineage,
     out: &mut Vec<u8>,
     path: &[EntryId],
     further: &[u32],
+    steps: &mut Steps<C>,
 ) -> Result<(), Memory>
     requires path { AreEntriesWithin lineage.now.rows path.now }
     requires further { AreWithin lineage.now.rows further.now }
@@ -107,8 +116,8 @@ pub(crate) fn put_headers(
         ++ concat (flat_map (header_fields_at lineage.now.rows) further.now)))) }
 {
     put_u32(out, (path.len() + further.len()) as u32)?;
-    put_path(alloc, lineage, out, path)?;
-    put_further(alloc, lineage, out, further)
+    put_path(alloc, lineage, out, path, steps)?;
+    put_further(alloc, lineage, out, further, steps)
 }
 
 /// Appends the body of the row at an index. Whatever bytes the scratch device holds, a body is

@@ -19,7 +19,8 @@ use Rattle.rooted_chain.specs.chain_exec.Compiled.{compiled_in}
 use Rattle.rooted_chain.specs.chain_exec.Fold.{block_effects}
 use Rattle.rooted_chain.specs.chain_exec.Replay.{replay}
 use Rattle.rooted_chain.specs.chain_replay.Chain.{ChainState, StandsFor, placement_by_mark}
-use Rattle.rooted_chain.specs.chain_replay.Judging.{Taken, Known, Added, added_by}
+use Rattle.rooted_chain.specs.chain_replay.Judging.{Taken, Known, Added, added_by, judgement_kept}
+use Rattle.rooted_chain.specs.chain_replay.declared.marking.Marking.TheVariants as markings
 use Rattle.rooted_chain.specs.chain_replay.declared.refusal.Refusal.{Refusal}
 use Rattle.lc_base.specs.declared.host_error.HostError.{HostError}
 use Rattle.lc_base.specs.declared.host_error.HostError.TheVariants as replays
@@ -197,6 +198,26 @@ IsAppendAnswer old state blocks judgement (Ok done) = IsAppended old blocks judg
     × IsNodeOf done.0 state (blocks_after blocks judgement)
 IsAppendAnswer old state blocks judgement (Err back) = IsHandedBack old state blocks judgement
     back.0 back.1
+
+-- What is returned for bytes with this judgement, by itself: they are known, added or refused as it
+-- says; or a device failed while a block was added; or memory ran out.
+abbrev pub IsAsJudged : Result Taken Refusal
+    → Result (NodeState × Appended) (Option NodeState × AppendError) → Type 0
+IsAsJudged judgement (Ok (node, appendeds.Known number)) =
+    (block : Block) × (judgement ≡ Ok (Known block)) × (number ≡ block.number)
+IsAsJudged judgement (Ok (node, appendeds.Added number rows receipts root)) =
+    (block : Block) × (judgement ≡ Ok (Added block)) × (number ≡ block.number)
+IsAsJudged judgement (Err (back, errors.Refused refusal)) = judgement ≡ Err refusal
+IsAsJudged judgement (Err (back, errors.DiskFault)) =
+    (block : Block) × (judgement ≡ Ok (Added block))
+IsAsJudged judgement (Err (back, errors.ScratchFault)) =
+    (block : Block) × (judgement ≡ Ok (Added block))
+IsAsJudged judgement (Err (back, errors.Memory)) = Unit {0}
+
+-- The judgement of bytes by what a node keeps, whatever blocks that stands for.
+abbrev pub node_judgement : NodeState → List ℕ → Result Taken Refusal
+node_judgement node bytes =
+    judgement_kept (markings.OfLog node.log.is_marked) node.chain (block_in bytes)
 
 -- The error of a block that did not run, as an error of the node.
 abbrev pub append_error : HostError → AppendError

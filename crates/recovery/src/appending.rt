@@ -16,6 +16,7 @@ ghost use Rattle.recovery.specs.Node.{
   logged_in,
   KeepsLog,
   IsAppendAnswer,
+  IsAsJudged,
   IsNodeAfter,
   append_error,
   Blames,
@@ -23,6 +24,7 @@ ghost use Rattle.recovery.specs.Node.{
   IfNode,
   is_disk_fault,
   is_scratch_fault,
+  node_judgement,
   reaches_disk,
   stored_placement,
 };
@@ -55,6 +57,7 @@ impl Node {
             → StandsFor self.now.chain blocks
             → IsJudged answer
             (judgement_of (stored_placement self.now.log.is_marked) blocks (block_in bytes.now))) }
+        ensures kept { IfOk result (λ answer. IsJudged answer (node_judgement self.now bytes.now)) }
         ensures next { IfOk result (λ answer. IfNext answer
             (IsNextBlock (Marking.OfLog self.now.log.is_marked) self.now.chain bytes.now)) }
     {
@@ -90,6 +93,7 @@ impl Node {
             ≡ Ok (Added block.now)
             → Keeps M.now M.disk machine.old machine.new
             (IsStepOf (logged_in self.log blocks) (Ok (Added block.now))) }
+        ensures kept { IsAsJudged (Ok (Added block.now)) result }
         ensures log_images { KeepsLog M.now M.disk machine.old machine.new bytes.now }
         ensures node { IsNodeAfter self bytes.now result }
         ensures ready { IfNode (λ node. IsReady node (M.disk machine.new (M.now machine.new))
@@ -155,10 +159,13 @@ impl Node {
             → Keeps M.now M.disk machine.old machine.new
             (IsStepOf (logged_in self.log blocks)
             (judgement_of (stored_placement self.log.is_marked) blocks (block_in bytes.now))) }
-        // Whether or not that is known, and so whatever the device returns: a crash at any moment
-        // leaves the chain from before the call, or that with the block that the bytes spell, if
-        // rows are not counted. Nothing else depends on the device than the rows, which can only
-        // refuse a block.
+        // Whether or not that is known, and so whatever the device returns: bytes are known, added
+        // or refused by the digests that the node keeps, the number of its rows, and the mark, unless
+        // memory runs out; and a device fails only while a block is added.
+        ensures kept { IsAsJudged (node_judgement self bytes.now) result }
+        // A crash at any moment leaves the chain from before the call, or that with the block that
+        // the bytes spell, if rows are not counted. Nothing else depends on the device than the
+        // rows, which can only refuse a block.
         ensures log_images { KeepsLog M.now M.disk machine.old machine.new bytes.now }
         // A node that is returned, with or without an error, is as it was; or if a block was added,
         // its number is that of the next one, and the node has its digest after the others, and as

@@ -1,4 +1,5 @@
 pub mod Longer
+pub mod Rising
 pub mod Logs
 pub mod Inputs
 pub mod Sound

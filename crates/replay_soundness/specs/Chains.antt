@@ -1,12 +1,15 @@
--- Where chains of blocks are found: in logs, and in inputs of frames.
-use Rattle.std.specs.Prelude.{◌≡◌, ℕ, Bool, List, ◌++◌, Some}
+-- Where chains of blocks are found, in logs and in inputs of frames; and the versions of their
+-- blocks.
+use Rattle.std.specs.Prelude.{◌≡◌, ◌⊎◌, ◌≤◌, ℕ, Bool, List, ◌++◌, Some}
+use Rattle.std.specs.List.{All, AllPairs}
 use Rattle.byte_fields.specs.Spelling.{IsBytes}
 use Rattle.block_codec.specs.Placement.{FitsVersions}
 use Rattle.block_codec.specs.Spelling.{Decoder, IsDecoder}
 use Rattle.block_codec.specs.declared.block.Block.{Block}
+use Rattle.block_codec.specs.declared.block.TheConstants.{FIRST_VERSION, SECOND_VERSION}
 use Rattle.block_log.specs.Standing.{Logged, next_block, chain_of}
 use Rattle.chain_input.specs.chain_exec.Compiled.{Compiler}
-use Rattle.chain_input.specs.chain_replay.Chain.{placement_by_mark, placement_in}
+use Rattle.chain_input.specs.chain_replay.Chain.{IsChain, placement_by_mark, placement_in}
 use Rattle.chain_input.specs.chain_replay.Judging.{added_by_all}
 use Rattle.chain_input.specs.Folding.{fold_from, fold_input}
 use Rattle.replay_soundness.specs.TypedChains.{IsLawfulChain}
@@ -43,3 +46,16 @@ abbrev pub InputsHoldChains : Type 0
 InputsHoldChains =
     (read : Decoder) (compile : Compiler) (input : List ℕ) → IsDecoder read → IsBytes input
     → IsLawfulChain compile (added_by_all (fold_input read (placement_in compile) input).taken)
+
+-- ---- the versions of a chain's blocks
+
+-- Each block has the first or the second version, and no lower one than any block before it.
+pub record HaveRisingVersions (blocks : List Block) : Type 0 where
+  pub each : All (λ block. (block.version ≡ FIRST_VERSION)
+      ⊎ (block.version ≡ SECOND_VERSION)) blocks
+  pub rise : AllPairs (λ earlier later. earlier.version ≤ later.version) blocks
+
+-- So it is in every chain, by whatever compiler.
+abbrev pub VersionsOnlyRise : Type 0
+VersionsOnlyRise =
+    (compile : Compiler) (blocks : List Block) → IsChain compile blocks → HaveRisingVersions blocks

@@ -1,6 +1,8 @@
-//! Laws of where chains are found, each the contract of an empty function.
+//! Laws of where chains are found, and of the versions of their blocks, each the contract of an
+//! empty function.
 
-ghost use Rattle.replay_soundness.specs.Chains.{LogsHoldChains, InputsAddToChains, InputsAddToLogs, InputsHoldChains};
+ghost use Rattle.replay_soundness.specs.Chains.{LogsHoldChains, InputsAddToChains, InputsAddToLogs};
+ghost use Rattle.replay_soundness.specs.Chains.{InputsHoldChains, VersionsOnlyRise};
 
 /// The blocks that the bytes of a log stand for are a chain, and its mark fits them: where it has
 /// none, the last one has the first version.
@@ -23,4 +25,9 @@ pub fn inputs_add_to_logs()
 /// The blocks that the frames of an input add to no block are a chain.
 pub fn inputs_hold_chains()
     ensures { InputsHoldChains }
+{}
+
+/// Each block of a chain has the first or the second version, and the versions only rise.
+pub fn versions_only_rise()
+    ensures { VersionsOnlyRise }
 {}

@@ -11,7 +11,10 @@ mod soundness;
 mod traces;
 mod typed_laws;
 
-pub use chains::{inputs_add_to_chains, inputs_add_to_logs, inputs_hold_chains, logs_hold_chains};
+pub use chains::{
+    inputs_add_to_chains, inputs_add_to_logs, inputs_hold_chains, logs_hold_chains,
+    versions_only_rise,
+};
 pub use light::{light_answers_are_of_replays, made_proofs_are_accepted_by_files};
 pub use light_client::{
     BLOCKS_PER_PIECE, Checked, LightError, LightFile, LightReject, block_count, check, head, piece,

@@ -1,36 +1,15 @@
 //! Cases of commands: the words and the input, the status, what was printed, and what became of the
 //! log.
 
-use crate::streams::{bytes_of, machine_of, scratch_of, source_of};
-use anyhow::{Context, Result};
+use crate::case::{Case, CaseError};
+use crate::printed::{print_held, print_told};
+use crate::streams::{PausingSource, bytes_of, machine_of, scratch_of, source_of};
 use chain_cli::run::run;
 use disk_model::MemMachine;
-use lc_base::Resources;
+use lc_base::{Resources, Seq};
+use lc_io::MemScratch;
 use std::alloc::Global;
 use std::io::Write;
-
-/// The calls of a case that fail: numbers from 0, with a comma between two.
-#[derive(Clone, Copy)]
-pub struct Failing<'a> {
-    /// Pulls of the source; after `pause `, those that return no bytes.
-    pub pulls: &'a str,
-    /// Calls of the machine, over its disk and its wire.
-    pub calls: &'a str,
-}
-
-/// A case of a command, by the fields of its line.
-#[derive(Clone, Copy)]
-pub struct Case<'a> {
-    pub words: &'a str,
-    /// The greatest number of bytes that the source returns at once.
-    pub piece: &'a str,
-    pub input: &'a str,
-    pub failing: Option<Failing<'a>>,
-    /// The bytes of the disk before the command, in hex.
-    pub image: Option<&'a str>,
-    /// The calls of the scratch device that fail; after a `/` its room.
-    pub scratch: &'a str,
-}
 
 /// A command that has ended.
 #[derive(Drop)]
@@ -43,8 +22,8 @@ pub struct Ended {
 }
 
 /// The words of a text that has a blank between each two.
-pub fn words_of(alloc: Global, text: &str) -> Result<Vec<String>> {
-    let mut words = Vec::new(alloc);
+fn words_of(alloc: Global, text: &str) -> Result<Seq<String>, CaseError> {
+    let mut words = Seq::new(alloc);
     if !text.is_empty() {
         for word in text.split(' ') {
             words.push(String::from_str(alloc, word)?)?;
@@ -53,48 +32,66 @@ pub fn words_of(alloc: Global, text: &str) -> Result<Vec<String>> {
     Ok(words)
 }
 
-/// Whether a piece is a line, of printable bytes and line ends only.
-fn is_line(piece: &[u8]) -> bool {
-    piece
-        .iter()
-        .all(|byte| *byte == b'\n' || (b' ' <= *byte && *byte <= b'~'))
+/// Runs words over a machine that is made for it.
+fn run_on_machine(
+    resources: Resources,
+    words: &[String],
+    source: &mut PausingSource,
+    scratch: &mut MemScratch,
+    case: &Case<'_>,
+) -> Result<Ended, CaseError> {
+    let mut machine = machine_of(resources.alloc, case.image, case.calls)?;
+    let number = run(resources, words, source, &mut machine, scratch).number();
+    let left = source.remaining();
+    Ok(Ended {
+        number,
+        left,
+        machine,
+    })
 }
 
-/// Prints a line as it is, and any other piece, which is a frame, in hex.
-pub fn print_piece<W: Write>(alloc: Global, out: &mut W, piece: &[u8]) -> Result<()> {
-    if is_line(piece) {
-        out.write_all(piece)?;
-    } else {
-        let digits = hex::encode(alloc, piece)?;
-        writeln!(out, "hex {digits}")?;
-    }
-    Ok(())
+/// Runs words over a source that is made for them.
+fn run_on_source(
+    resources: Resources,
+    words: &[String],
+    scratch: &mut MemScratch,
+    case: &Case<'_>,
+) -> Result<Ended, CaseError> {
+    let mut source = source_of(resources.alloc, case.piece, case.input, case.pulls)?;
+    run_on_machine(resources, words, &mut source, scratch, case)
 }
 
-/// Prints what was printed on a machine, piece by piece.
-fn print_told<W: Write>(alloc: Global, out: &mut W, machine: &MemMachine) -> Result<()> {
-    for i in 0..machine.told_count() {
-        let (_, bytes) = machine.told_at(i).context("a piece that was told")?;
-        print_piece(alloc, out, bytes)?;
-    }
-    Ok(())
+/// Runs words over a scratch device that is made for them.
+fn run_on_scratch(
+    resources: Resources,
+    words: &[String],
+    case: &Case<'_>,
+    scratch: &str,
+) -> Result<Ended, CaseError> {
+    let mut scratch = scratch_of(resources.alloc, scratch)?;
+    run_on_source(resources, words, &mut scratch, case)
 }
 
-/// Prints what a disk holds, in hex, or `same` if it is what it held before.
-pub fn print_held<W: Write>(
+/// Runs a command over what the fields of its case say.
+pub fn run_case(
+    resources: Resources,
+    command: &str,
+    case: &Case<'_>,
+    scratch: &str,
+) -> Result<Ended, CaseError> {
+    let words = words_of(resources.alloc, command)?;
+    run_on_scratch(resources, words.as_slice(), case, scratch)
+}
+
+/// Prints what a disk holds, or that it is what it held at first.
+fn print_log<W: Write>(
     alloc: Global,
     out: &mut W,
-    what: &str,
-    before: &[u8],
+    image: &str,
     after: &[u8],
-) -> Result<()> {
-    if after == before {
-        writeln!(out, "{what} same")?;
-    } else {
-        let digits = hex::encode(alloc, after)?;
-        writeln!(out, "{what} {digits}")?;
-    }
-    Ok(())
+) -> Result<(), CaseError> {
+    let before = bytes_of(alloc, image)?;
+    print_held(alloc, out, "log", before.as_slice(), after)
 }
 
 /// Prints the number of a command's status, its words, and what it printed. Then, if the case says
@@ -105,45 +102,24 @@ fn print_outcome<W: Write>(
     out: &mut W,
     case: &Case<'_>,
     ended: &Ended,
-) -> Result<()> {
-    let Ended {
-        number,
-        left,
-        machine,
-    } = ended;
-    writeln!(out, "== {number} {}", case.words)?;
-    print_told(alloc, out, machine)?;
-    if case.failing.is_some() {
-        writeln!(out, "left {left}")?;
+) -> Result<(), CaseError> {
+    writeln!(out, "== {} {}", ended.number, case.words)?;
+    print_told(alloc, out, &ended.machine, false)?;
+    if case.has_calls() {
+        writeln!(out, "left {}", ended.left)?;
     }
-    if let Some(image) = case.image {
-        let before = bytes_of(alloc, image)?;
-        print_held(alloc, out, "log", before.as_slice(), machine.image())?;
+    if case.has_image() {
+        print_log(alloc, out, case.image, ended.machine.image())?;
     }
     Ok(())
 }
 
-/// Runs the command of a case.
-pub fn run_case(resources: Resources, case: &Case<'_>) -> Result<Ended> {
-    let alloc = resources.alloc;
-    let (pulls, calls) = match case.failing {
-        None => ("", ""),
-        Some(Failing { pulls, calls }) => (pulls, calls),
-    };
-    let mut source = source_of(alloc, case.piece, case.input, pulls)?;
-    let mut machine = machine_of(alloc, case.image.unwrap_or(""), calls)?;
-    let mut scratch = scratch_of(alloc, case.scratch)?;
-    let words = words_of(alloc, case.words)?;
-    let number = run(resources, &words, &mut source, &mut machine, &mut scratch).number();
-    Ok(Ended {
-        number,
-        left: source.remaining(),
-        machine,
-    })
-}
-
 /// Runs a command, and prints what became of it.
-pub fn run_command<W: Write>(resources: Resources, out: &mut W, case: &Case<'_>) -> Result<()> {
-    let ended = run_case(resources, case)?;
+pub fn run_command<W: Write>(
+    resources: Resources,
+    out: &mut W,
+    case: &Case<'_>,
+) -> Result<(), CaseError> {
+    let ended = run_case(resources, case.words, case, case.further)?;
     print_outcome(resources.alloc, out, case, &ended)
 }

@@ -5,8 +5,9 @@ ghost use Rattle.lc_base.specs.Faults.{HasCause};
 ghost use Rattle.lc_io.specs.Outside.{Pulls};
 ghost use Rattle.disk_model.specs.{Disk.{IsSettled}, Machine.{disk_of, now_of}};
 
-use anyhow::{Context, Result};
+use crate::case::{CaseError, cut};
 use disk_model::MemMachine;
+use lc_base::Seq;
 use lc_io::{Failed, MemScratch, MemSource, Room, Source};
 use std::alloc::Global;
 
@@ -33,7 +34,7 @@ pub struct PausingSource {
     /// The number of pulls so far.
     pulls: u64,
     /// The numbers of the pulls, from 0, that return no bytes.
-    pauses: Vec<u64>,
+    pauses: Seq<u64>,
 }
 
 impl PausingSource {
@@ -56,26 +57,52 @@ impl Source for PausingSource {
     {
         let number = self.pulls;
         self.pulls = self.pulls.saturating_add(1);
-        if self.pauses.contains(&number) {
+        if self.pauses.as_slice().contains(&number) {
             return Ok(0);
         }
         self.source.pull(buffer)
     }
 }
 
+/// The number that a text spells.
+pub fn number_of(text: &str) -> Result<u64, CaseError> {
+    match text.parse::<u64>() {
+        Ok(number) => Ok(number),
+        Err(_) => Err(CaseError::Malformed),
+    }
+}
+
+/// The bytes that digits in hex spell.
+pub fn decoded(alloc: Global, digits: &str) -> Result<Vec<u8>, CaseError> {
+    match hex::decode(alloc, digits) {
+        Ok(bytes) => Ok(bytes),
+        Err(_) => Err(CaseError::Malformed),
+    }
+}
+
+/// Adds bytes `count` times.
+fn add_times(
+    alloc: Global,
+    bytes: &mut Vec<u8>,
+    once: &[u8],
+    count: usize,
+) -> Result<(), CaseError> {
+    let all = once.repeat(alloc, count)?;
+    Ok(bytes.extend_from_slice(&all)?)
+}
+
 /// Adds a part: bytes in hex, or `HEX*COUNT` for these bytes `COUNT` times.
-fn add_part(alloc: Global, bytes: &mut Vec<u8>, part: &str) -> Result<()> {
+fn add_part(alloc: Global, bytes: &mut Vec<u8>, part: &str) -> Result<(), CaseError> {
     let (digits, count) = match part.split_once('*') {
         None => (part, 1),
-        Some((digits, count)) => (digits, count.parse::<usize>()?),
+        Some((digits, count)) => (digits, number_of(count)? as usize),
     };
-    let once = hex::decode(alloc, digits)?;
-    bytes.extend_from_slice(&once.repeat(alloc, count)?)?;
-    Ok(())
+    let once = decoded(alloc, digits)?;
+    add_times(alloc, bytes, &once, count)
 }
 
 /// The bytes of a text: parts with a `+` between each two.
-pub fn bytes_of(alloc: Global, text: &str) -> Result<Vec<u8>> {
+pub fn bytes_of(alloc: Global, text: &str) -> Result<Vec<u8>, CaseError> {
     let mut bytes = Vec::new(alloc);
     for part in text.split('+') {
         add_part(alloc, &mut bytes, part)?;
@@ -84,65 +111,98 @@ pub fn bytes_of(alloc: Global, text: &str) -> Result<Vec<u8>> {
 }
 
 /// Numbers with a comma between each two; an empty text has no numbers.
-fn numbers_of(alloc: Global, text: &str) -> Result<Vec<u64>> {
-    let mut numbers = Vec::new(alloc);
+fn numbers_of(alloc: Global, text: &str) -> Result<Seq<u64>, CaseError> {
+    let mut numbers = Seq::new(alloc);
     if !text.is_empty() {
         for number in text.split(',') {
-            numbers.push(number.parse::<u64>()?)?;
+            numbers.push(number_of(number)?)?;
         }
     }
     Ok(numbers)
 }
 
+/// A source of these bytes, of which the pulls of these numbers fail.
+fn source_over(
+    alloc: Global,
+    piece: u64,
+    input: &[u8],
+    failing: &str,
+) -> Result<MemSource, CaseError> {
+    let failing = numbers_of(alloc, failing)?;
+    Ok(MemSource::new(alloc, input, (piece as usize).max(1), failing.as_slice())?)
+}
+
+/// A source of the bytes of an input, of which the pulls of these numbers fail.
+fn failing_source_of(
+    alloc: Global,
+    piece: &str,
+    input: &str,
+    failing: &str,
+) -> Result<MemSource, CaseError> {
+    let piece = number_of(piece)?;
+    let input = bytes_of(alloc, input)?;
+    source_over(alloc, piece, input.as_slice(), failing)
+}
+
 /// A source of an input, which returns at most `piece` bytes at once. The pulls of these numbers
 /// fail; if the text begins with `pause`, they return no bytes.
-pub fn source_of(alloc: Global, piece: &str, input: &str, pulls: &str) -> Result<PausingSource> {
-    let piece = piece.parse::<usize>()?;
-    let input = bytes_of(alloc, input)?;
+pub fn source_of(
+    alloc: Global,
+    piece: &str,
+    input: &str,
+    pulls: &str,
+) -> Result<PausingSource, CaseError> {
     let (failing, pauses) = match pulls.strip_prefix(PAUSE) {
-        None => (numbers_of(alloc, pulls)?, Vec::new(alloc)),
-        Some(pauses) => (Vec::new(alloc), numbers_of(alloc, pauses)?),
+        None => (pulls, ""),
+        Some(pauses) => ("", pauses),
     };
-    let source = MemSource::new(alloc, &input, piece.max(1), &failing)
-        .ok()
-        .context("no memory for the input")?;
-    Ok(PausingSource {
-        source,
-        pulls: 0,
-        pauses,
-    })
+    let pauses = numbers_of(alloc, pauses)?;
+    match failing_source_of(alloc, piece, input, failing) {
+        Ok(source) => Ok(PausingSource {
+            source,
+            pulls: 0,
+            pauses,
+        }),
+        Err(error) => Err(error),
+    }
+}
+
+/// A machine whose disk holds these bytes, with nothing pending. Its calls of these numbers fail.
+fn machine_over(alloc: Global, image: &[u8], calls: &str) -> Result<MemMachine, CaseError>
+    ensures settled { IfOk result (λ machine. IsSettled (disk_of machine (now_of machine))) }
+{
+    let calls = numbers_of(alloc, calls)?;
+    match MemMachine::new(alloc, image, ROOM, calls.as_slice()) {
+        Ok(machine) => Ok(machine),
+        Err(_) => Err(CaseError::Memory),
+    }
 }
 
 /// A machine whose disk holds the bytes of an image, with nothing pending. Its calls of these
 /// numbers fail.
-pub fn machine_of(alloc: Global, image: &str, calls: &str) -> Result<MemMachine>
+pub fn machine_of(alloc: Global, image: &str, calls: &str) -> Result<MemMachine, CaseError>
     ensures settled { IfOk result (λ machine. IsSettled (disk_of machine (now_of machine))) }
 {
     let image = bytes_of(alloc, image)?;
-    let calls = numbers_of(alloc, calls)?;
-    MemMachine::new(alloc, &image, ROOM, &calls)
-        .ok()
-        .context("no memory for the machine")
+    machine_over(alloc, image.as_slice(), calls)
 }
 
 /// A room: how many calls fit, and after a `/` how many bytes.
-fn room_of(text: &str) -> Result<Room> {
-    let (calls, bytes) = text.split_once('/').context("a room without bytes")?;
-    Ok(Room {
-        calls: calls.parse::<u32>()?,
-        bytes: bytes.parse::<u32>()?,
-    })
+fn room_of(text: &str) -> Result<Room, CaseError> {
+    let (calls, bytes) = cut(text, '/');
+    match (calls.parse::<u32>(), bytes.parse::<u32>()) {
+        (Ok(calls), Ok(bytes)) => Ok(Room { calls, bytes }),
+        _ => Err(CaseError::Malformed),
+    }
 }
 
 /// A scratch device that keeps nothing yet. Its calls of these numbers fail; its room may follow
 /// after a `/`.
-pub fn scratch_of(alloc: Global, text: &str) -> Result<MemScratch> {
+pub fn scratch_of(alloc: Global, text: &str) -> Result<MemScratch, CaseError> {
     let (failing, room) = match text.split_once('/') {
         None => (text, SCRATCH_ROOM),
         Some((failing, room)) => (failing, room_of(room)?),
     };
     let failing = numbers_of(alloc, failing)?;
-    MemScratch::new(alloc, room, &failing)
-        .ok()
-        .context("no memory for the scratch device")
+    Ok(MemScratch::new(alloc, room, failing.as_slice())?)
 }

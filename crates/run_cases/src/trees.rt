@@ -1,41 +1,57 @@
 //! Cases of trees: the tree hash of leaves, and the audit path of each (RFC 6962, section 2.1).
 
-use anyhow::{Context, Result, bail, ensure};
-use lc_base::{Bytes, Digest};
+use crate::case::{Case, CaseError};
+use crate::printed::print_hex;
+use crate::streams::decoded;
+use lc_base::{Bytes, Digest, DigestList, TextList};
 use merkle_tree::{Levels, MAX_LEAVES, audit_length, leaf_hash, root_from_leaf, tree_hash};
 use std::alloc::Global;
 use std::io::Write;
 
 /// Leaves: bytes in hex, with a comma after each.
-fn leaves_of(alloc: Global, text: &str) -> Result<Vec<Bytes>> {
-    let mut leaves = Vec::new(alloc);
-    for digits in text.split(',') {
-        leaves.push(Bytes::from_vec(hex::decode(alloc, digits)?))?;
+fn leaves_of(alloc: Global, text: &str) -> Result<TextList, CaseError> {
+    let mut leaves = TextList::new(alloc);
+    if let Some(text) = text.strip_suffix(',') {
+        for digits in text.split(',') {
+            leaves.push(Bytes::from_vec(decoded(alloc, digits)?))?;
+        }
     }
-    // The empty text after the last comma is no leaf.
-    leaves.pop();
     Ok(leaves)
 }
 
-/// The levels of the tree of these leaves, which are added one by one.
-fn levels_of(alloc: Global, leaves: &[Bytes]) -> Result<Levels> {
-    let Ok(mut levels) = Levels::new(alloc) else {
-        bail!("no memory for the levels");
-    };
+/// Adds leaves to the levels of a tree, one by one.
+fn add_leaves(levels: &mut Levels, leaves: &[Bytes]) -> Result<(), CaseError> {
     for leaf in leaves {
-        ensure!(levels.len() < MAX_LEAVES, "too many leaves");
-        if levels.push(leaf_hash(leaf.as_bytes())).is_err() {
-            bail!("no memory for a leaf");
+        if levels.len() >= MAX_LEAVES {
+            return Err(CaseError::Malformed);
         }
+        levels.push(leaf_hash(leaf.as_bytes()))?;
     }
-    Ok(levels)
+    Ok(())
 }
 
-/// Prints a hash in hex, after a word that says what it is.
-fn print_hash<W: Write>(alloc: Global, out: &mut W, what: &str, hash: &Digest) -> Result<()> {
-    let digits = hex::encode(alloc, hash.0.as_slice())?;
-    writeln!(out, "{what} {digits}")?;
+/// Prints the hashes of an audit path.
+fn print_hashes<W: Write>(alloc: Global, out: &mut W, hashes: &[Digest]) -> Result<(), CaseError> {
+    for hash in hashes {
+        print_hex(alloc, out, "beside", hash.0.as_slice())?;
+    }
     Ok(())
+}
+
+/// The hash to which an audit path leads from a leaf.
+fn led_to(leaf: &Bytes, index: u32, count: u32, path: &[Digest]) -> Result<Digest, CaseError> {
+    if index >= count || audit_length(index, count) as usize > path.len() {
+        return Err(CaseError::Wrong);
+    }
+    Ok(root_from_leaf(index, count, &leaf_hash(leaf.as_bytes()), path))
+}
+
+/// The audit path of a leaf.
+fn path_of(levels: &Levels, index: u32) -> Result<DigestList, CaseError> {
+    if index >= levels.len() {
+        return Err(CaseError::Wrong);
+    }
+    Ok(levels.audit(index)?)
 }
 
 /// Prints the audit path of a leaf of a tree, and the hash to which it leads from the leaf.
@@ -45,17 +61,11 @@ fn print_path<W: Write>(
     levels: &Levels,
     index: u32,
     leaf: &Bytes,
-) -> Result<()> {
-    let count = levels.len();
-    ensure!(index < count, "no such leaf");
-    let path = levels.audit(index).ok().context("no memory for a path")?;
-    for hash in path.as_slice() {
-        print_hash(alloc, out, "beside", hash)?;
-    }
-    let length = audit_length(index, count) as usize;
-    ensure!(length <= path.len(), "a short path");
-    let root = root_from_leaf(index, count, &leaf_hash(leaf.as_bytes()), path.as_slice());
-    print_hash(alloc, out, "to", &root)
+) -> Result<(), CaseError> {
+    let path = path_of(levels, index)?;
+    print_hashes(alloc, out, path.as_slice())?;
+    let root = led_to(leaf, index, levels.len(), path.as_slice())?;
+    print_hex(alloc, out, "to", root.0.as_slice())
 }
 
 /// Prints the index of each leaf, its audit path, and the hash to which that leads.
@@ -64,7 +74,7 @@ fn print_paths<W: Write>(
     out: &mut W,
     leaves: &[Bytes],
     levels: &Levels,
-) -> Result<()> {
+) -> Result<(), CaseError> {
     for (index, leaf) in (0..levels.len()).zip(leaves) {
         writeln!(out, "leaf {index}")?;
         print_path(alloc, out, levels, index, leaf)?;
@@ -72,14 +82,27 @@ fn print_paths<W: Write>(
     Ok(())
 }
 
-/// Prints the words of the case, the tree hash of the leaves, by its definition and by levels, and
-/// the audit path of each leaf.
-pub fn run_tree<W: Write>(alloc: Global, out: &mut W, words: &str, leaves: &str) -> Result<()> {
-    writeln!(out, "== {words}")?;
-    let leaves = leaves_of(alloc, leaves)?;
-    let levels = levels_of(alloc, leaves.as_slice())?;
-    ensure!(leaves.len() <= MAX_LEAVES as usize, "too many leaves");
-    print_hash(alloc, out, "root", &tree_hash(leaves.as_slice()))?;
-    print_hash(alloc, out, "levels", &levels.root())?;
-    print_paths(alloc, out, leaves.as_slice(), &levels)
+/// Prints the tree hash of the leaves, by its definition and by levels, which are empty at first,
+/// and the audit path of each leaf.
+fn print_tree<W: Write>(
+    alloc: Global,
+    out: &mut W,
+    leaves: &[Bytes],
+    levels: &mut Levels,
+) -> Result<(), CaseError> {
+    add_leaves(levels, leaves)?;
+    if leaves.len() > MAX_LEAVES as usize {
+        return Err(CaseError::Malformed);
+    }
+    print_hex(alloc, out, "root", tree_hash(leaves).0.as_slice())?;
+    print_hex(alloc, out, "levels", levels.root().0.as_slice())?;
+    print_paths(alloc, out, leaves, levels)
+}
+
+/// Prints the words of a case, and the tree of its leaves.
+pub fn run_tree<W: Write>(alloc: Global, out: &mut W, case: &Case<'_>) -> Result<(), CaseError> {
+    writeln!(out, "== {}", case.words)?;
+    let leaves = leaves_of(alloc, case.piece)?;
+    let mut levels = Levels::new(alloc)?;
+    print_tree(alloc, out, leaves.as_slice(), &mut levels)
 }

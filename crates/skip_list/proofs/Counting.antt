@@ -1,5 +1,5 @@
 -- A climb reads the newest version, and one entry more for each link that leads to another block.
-use Rattle.std.proofs.Common.{◌≡◌, ◌∙◌, ℕ, suc, ◌+◌, ◌<◌, ◌^◌, true, false, List, [], ◌∷◌, ◌++◌, refl, sym, ap, arith, inl, inr}
+use Rattle.std.proofs.Common.{◌≡◌, ◌∙◌, ℕ, ◌+◌, ◌<◌, ◌^◌, true, List, [], ◌∷◌, ◌++◌, refl, sym, ap, arith, inl, inr}
 use Rattle.std.specs.Prelude.{◌==◌, if◌then◌else◌}
 use Rattle.std.proofs.lemmas.Bool.{cases_Bool, eq-eqb, eqb-true}
 use Rattle.std.proofs.lemmas.Option.{same_Some, none-some}
@@ -8,7 +8,7 @@ use Rattle.entry_store.specs.declared.entry.Hop.{Hop}
 use Rattle.entry_store.specs.Entries.{Entry}
 use Rattle.entry_store.specs.Steps.{raised_count}
 use Rattle.skip_list.specs.declared.rung.Rung.{Rung}
-use Rattle.skip_list.specs.Towered.{blocks_of, HaveTowers, IsTowered}
+use Rattle.skip_list.specs.Towered.{HaveTowers, IsTowered}
 use Rattle.skip_list.specs.Climbing.{rung_over, count_moved, moves_along, entries_climbed}
 
 -- ---- one climb

@@ -1,13 +1,11 @@
 -- The links of one version, level by level: which is the highest, and how high it is.
-use Rattle.std.proofs.Common.{◌≡◌, ◌∙◌, ℕ, zero, suc, ◌+◌, ◌*◌, ◌/◌, ◌^◌, ◌<◌, ◌≤◌, true, false, List, [], ◌∷◌, ◌++◌, length, map, Option, Some, refl, sym, ap, arith, inl, inr}
-use Rattle.std.specs.Prelude.{slice_get, nat_lt, bit_xor}
+use Rattle.std.proofs.Common.{◌≡◌, ◌∙◌, ℕ, zero, suc, ◌+◌, ◌*◌, ◌^◌, ◌<◌, ◌≤◌, false, List, [], ◌∷◌, ◌++◌, length, map, Option, Some, refl, sym, ap, arith, inl, inr}
+use Rattle.std.specs.Prelude.{slice_get, bit_xor}
 use Rattle.std.specs.List.{filter_map, range_with_len}
 use Rattle.std.specs.Option.{option_to_list}
-use Rattle.std.specs.Int.Bits.{xor_add_and, xor_self}
-use Rattle.std.proofs.lemmas.Bool.{cases_Bool, cases_lt, lt-ltb, le-ltb}
+use Rattle.std.proofs.lemmas.Bool.{cases_Bool, cases_lt}
 use Rattle.std.proofs.lemmas.List.{length-append}
-use Rattle.std.proofs.lemmas.Nat.{xor_lt, and_le_l, and_le_r, xor_shr, pow_pos, le-div}
-use Rattle.std.proofs.Math.Nat.{div-eq_of_lt, two-pow-succ}
+use Rattle.std.proofs.lemmas.Nat.{xor_lt}
 use Rattle.std.proofs.Math.Pow.{pow_mono}
 use Rattle.skip_links.specs.Falling.{IsFalling, is_first, from_level}
 use Rattle.skip_links.specs.declared.limits.TheConstants.{MAX_LEVEL}

@@ -1,5 +1,6 @@
 -- Lookups of the last version up to a block.
-use Rattle.std.specs.Prelude.{ℕ, ◌+◌, ◌*◌, ◌<◌, nat_le, if◌then◌else◌, List, [], ◌∷◌, Option, Some, None}
+use Rattle.std.specs.Prelude.{◌≡◌, ℕ, ◌+◌, ◌*◌, ◌<◌, nat_le, if◌then◌else◌, List, [], ◌∷◌}
+use Rattle.std.specs.Prelude.{slice_get, Option, Some, None}
 use Rattle.std.specs.List.{find}
 use Rattle.std.specs.Option.{option_map}
 use Rattle.skip_links.specs.Paths.{onward, binary_digits}
@@ -31,6 +32,12 @@ abbrev pub IsBack : EntryId → Turn → Type 0
 IsBack id turns.Answer = Unit {0}
 IsBack id turns.Nothing = Unit {0}
 IsBack id (turns.Hop next) = next.0 < id.0
+
+-- This is the link of an entry to the version before it: its lowest one, or none.
+abbrev pub IsPrevious : List Entry → EntryId → Option Hop → Type 0
+IsPrevious entries id previous =
+    option_map (λ (entry : Entry). slice_get entry.links.hops 0) (slice_get entries id.0)
+    ≡ Some previous
 
 -- The last of these versions that is in a block up to `at`.
 abbrev pub latest_version : ℕ → List Hop → Option EntryId

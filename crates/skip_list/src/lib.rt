@@ -12,5 +12,5 @@ pub use climbing::links_for;
 pub use entry_store::{Counter, EntryId, EntryList, Facts, Steps, Store};
 pub use examples::{far_heights, low_heights};
 pub use laws::{new_entry_is_towered, towered_entries_stay_towered, versions_are_determined};
-pub use lookup::{Turn, find, path_next};
+pub use lookup::{Found, Turn, find, path_next};
 pub use path::path_entries;

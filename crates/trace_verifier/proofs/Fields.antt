@@ -4,7 +4,7 @@
 use Rattle.std.proofs.Common.{◌≡◌, ◌∙◌, ℕ, ◌-◌, ◌<◌, ◌≤◌, ◌^◌, ◌==◌, nat_le, List, [], ◌∷◌}
 use Rattle.std.proofs.Common.{◌++◌, length, take, Result, Ok, Err, refl, sym, ap, subst, arith}
 use Rattle.std.proofs.Common.{append_assoc, Bool, true, false, cond, nat_lt, drop, Some, IfSome}
-use Rattle.std.specs.List.{concat, AllByRecursion}
+use Rattle.std.specs.List.{concat}
 use Rattle.std.specs.Int.{w32, to_be_bytes}
 use Rattle.std.specs.Cmp.Lexicographic.{pointwise}
 use Rattle.std.proofs.lemmas.Bool.{leb-true, le-leb}
@@ -17,8 +17,8 @@ use Rattle.byte_fields.specs.Reading.{Field, ◌>>=◌, number_at, bytes_at}
 use Rattle.byte_fields.proofs.Laws.{IsField, renamed, then_field, made_field, falls, left_of, ok_is}
 use Rattle.byte_fields.proofs.Laws.{Sample, IsBytes-after, concat-append}
 use Rattle.byte_fields.proofs.Items.{counted_field}
-use Rattle.byte_fields.proofs.Pieces.{piece_field, ruled_piece, number_piece, bytes_piece, wide32}
-use Rattle.byte_fields.proofs.Pieces.{IsBytes-take}
+use Rattle.byte_fields.proofs.Pieces.{IsPiece, piece_field, ruled_piece, number_piece, bytes_piece}
+use Rattle.byte_fields.proofs.Pieces.{wide32, IsBytes-take}
 use Rattle.prov_entry.specs.declared.entry.Header.{Header}
 use Rattle.prov_entry.specs.declared.entry.Body.{Body}
 use Rattle.entry_views.specs.Headers.{header_field}
@@ -37,6 +37,7 @@ use Rattle.proof_verifier.specs.proof_checks.TraceSpelling.{start_fields, item_f
 use Rattle.proof_verifier.specs.proof_checks.TraceSpelling.{trace_fields}
 use Rattle.trace_verifier.specs.Reading.{magic_at, proof_before, proof_of_length, start_at, item_of}
 use Rattle.trace_verifier.specs.Reading.{item_at, counted_items_at, trace_proof_at}
+use Rattle.trace_verifier.specs.Malformed.{AreItems}
 
 -- ---- the items
 
@@ -51,11 +52,7 @@ item_field =
     (λ item is. ((is.header_is_header, is.body_is_body), refl))
     (λ item is. refl)
 
-record AreItems (items : List TraceItem) : Type 0 where
-  pub few : length items ≤ MAX_ROWS
-  pub lawful : AllByRecursion IsTraceItem items
-
-items_field : IsField counted_items_at items_fields AreItems
+pub items_field : IsField counted_items_at items_fields AreItems
 unfolding counted_items_at
 items_field =
     let none : Sample (λ (n : ℕ). (n < 2 ^ 32) × (nat_le n MAX_ROWS ≡ true)) =
@@ -68,16 +65,19 @@ items_field =
 
 -- ---- the magic bytes
 
-abbrev IsMagic : List ℕ → Type 0
+abbrev pub IsMagic : List ℕ → Type 0
 IsMagic bytes = (length bytes ≡ 4) × (pointwise ◌==◌ bytes TRACE_MAGIC ≡ true)
 
-magic_field : IsField magic_at (λ bytes. bytes ∷ []) IsMagic
+pub magic_piece : IsPiece magic_at (λ bytes. bytes) IsMagic
 unfolding magic_at
-magic_field =
+magic_piece =
     let magic : Sample IsMagic = record { value = TRACE_MAGIC; is = (refl, refl) } in
-    piece_field (ruled_piece (bytes_piece 4) (λ bytes. pointwise ◌==◌ bytes TRACE_MAGIC) magic)
+    ruled_piece (bytes_piece 4) (λ bytes. pointwise ◌==◌ bytes TRACE_MAGIC) magic
 
-magic_is : (bytes : List ℕ) → IsMagic bytes → bytes ≡ TRACE_MAGIC
+pub magic_field : IsField magic_at (λ bytes. bytes ∷ []) IsMagic
+magic_field = piece_field magic_piece
+
+pub magic_is : (bytes : List ℕ) → IsMagic bytes → bytes ≡ TRACE_MAGIC
 magic_is bytes is = (bytes_eq-Decides bytes TRACE_MAGIC).0 is.1
 
 -- ---- the proof of the version
@@ -182,7 +182,7 @@ module _ (bytes : List ℕ) (fits : IsBytes bytes) where
 
 -- ---- a fault in it
 
-abbrev parted : ℕ → List ℕ → List ℕ × List ℕ
+abbrev pub parted : ℕ → List ℕ → List ℕ × List ℕ
 parted count all = (take count all, drop count all)
 
 own_within : (count : ℕ) (all own after : List ℕ) → bytes_at count all ≡ Ok (own, after)
@@ -243,13 +243,13 @@ pub record IsTaken (bytes : List ℕ) (trace : TraceProof) (rest : List ℕ) : T
   pub lawful : IsTraceProof trace
 
 -- What is read of the items, and of all after the magic bytes.
-abbrev with_items : Proof → List TraceItem × List ℕ → Field TraceProof
+abbrev pub with_items : Proof → List TraceItem × List ℕ → Field TraceProof
 with_items start items = Ok (record { start = start; items = items.0 }, items.1)
 
-abbrev after_start : Proof × List ℕ → Field TraceProof
+abbrev pub after_start : Proof × List ℕ → Field TraceProof
 after_start start = counted_items_at start.1 >>= with_items start.0
 
-abbrev after_magic : List ℕ × List ℕ → Field TraceProof
+abbrev pub after_magic : List ℕ × List ℕ → Field TraceProof
 after_magic magic = start_at magic.1 >>= after_start
 
 -- The fields of the proof and of the items, and how they follow the magic bytes.

@@ -2,6 +2,7 @@
 -- of the items.
 use Rattle.std.proofs.Common.{◌≡◌, ◌∙◌, ℕ, List, map, Option, Some, None, Result, Ok, Err}
 use Rattle.std.proofs.Common.{refl, sym, ap, subst}
+use Rattle.std.specs.Prelude.{IsOk, IfErr}
 use Rattle.lc_base.specs.Answers.{Answers}
 use Rattle.lc_base.specs.declared.row.Dep.{Dep}
 use Rattle.lc_base.specs.declared.answer.Answer.{Answer}
@@ -27,7 +28,9 @@ use Rattle.trace_verifier.specs.declared.error.TraceError.{TraceError}
 use Rattle.trace_verifier.specs.Errors.{fault_told}
 use Rattle.trace_verifier.specs.Starting.{block_of_answer, block_if}
 use Rattle.trace_verifier.specs.Items.{items_passed, shown_in, shown_after}
+use Rattle.trace_verifier.specs.Wanting.{AnyWants, Wants, MayRunOut}
 use Rattle.trace_verifier.proofs.Starts.{block_shown, block_is, same_wanted}
+use Rattle.trace_verifier.proofs.Wanting.{may_by_header}
 
 -- ---- the start
 
@@ -89,6 +92,15 @@ module _ (trace : TraceProof) where
       ∙ ap (λ (r : Result (List BodyDep) TraceReject). and_then r (shown_from block trace.items))
       (same_wanted last trace.start.body)
 
+-- The block that an accepted start shows is that of its last header.
+shown_block : (root key : List ℕ) (at : ℕ) (trace : TraceProof) (shown : Option ℕ)
+    → Ok shown ≡ block_if (verdict root (start_query key at) trace.start)
+    → shown ≡ block trace
+shown_block root key at trace shown e =
+    let start = verdict root (start_query key at) trace.start in
+    let is = is_accepted start shown e in
+    is.block_is ∙ block_is root key at trace.start is.answer is.accepted
+
 -- The verdict on a proof whose start is accepted, by the block that the start shows.
 judged : (root key : List ℕ) (at : ℕ) (trace : TraceProof) (shown : Option ℕ)
     → Ok shown ≡ block_if (verdict root (start_query key at) trace.start)
@@ -97,7 +109,7 @@ unfolding trace_verdict
 judged root key at trace shown e =
     let start = verdict root (start_query key at) trace.start in
     let is = is_accepted start shown e in
-    let own = is.block_is ∙ block_is root key at trace.start is.answer is.accepted in
+    let own = shown_block root key at trace shown e in
     ap (λ (r : Result Answer Reject). after_start r (items_verdict trace)) is.accepted
     ∙ verdict_is trace
     ∙ ap (λ (block : Option ℕ). shown_after block trace.start.body trace.items) (sym own)
@@ -132,3 +144,18 @@ module _ (root key : List ℕ) (at : ℕ) (trace : TraceProof) (start : Proof)
       let shows = λ (r : Result (Option Trace) TraceReject).
       Answers (λ shown. shown) fault_told result r in
       subst shows (sym (judged root key at trace block (e ∙ own_start))) told
+
+  pub start_refuses : (block : Option ℕ) (result : Result (Option Trace) TraceError)
+      → Ok block ≡ block_if (verdict root (start_query key at) start)
+      → IfErr result (MayRunOut (AnyWants block trace.start.body trace.items)
+      (IsOk (shown_after block trace.start.body trace.items)))
+      → IfErr result (MayRunOut (Wants trace) (IsOk (trace_verdict root key at trace)))
+  start_refuses _ (Ok found) e may = tt
+  start_refuses shown (Err error) e may =
+      let own = shown_block root key at trace shown (e ∙ own_start) in
+      let shows = λ (ok : IsOk (shown_after shown trace.start.body trace.items)).
+      subst (λ (r : Result (Option Trace) TraceReject). IsOk r)
+      (sym (judged root key at trace shown (e ∙ own_start))) ok in
+      may_by_header (last_of trace.start.headers) trace.start.body trace.items shown
+      (IsOk (shown_after shown trace.start.body trace.items))
+      (IsOk (trace_verdict root key at trace)) error own shows may

@@ -3,5 +3,7 @@ pub mod Adding
 pub mod Fields
 pub mod Viewed
 pub mod Starts
+pub mod Wanting
+pub mod Malformed
 pub mod Judged
 pub mod Verified

@@ -126,6 +126,49 @@ module _ (place : Place) (digest : Digest) where
       let nones = or_parts (other (dep_at e)) (list_any other (map dep_at entries)) none in
       one_put e entries nones.0 (put_in entries nones.1)
 
+  -- ---- nothing is found at the place
+
+  abbrev is_own : BodyDep → Bool
+  is_own = is_named place.0.1 place.0.0
+
+  one_absent : (e : Entry) (entries : List Entry)
+      → (lookup (is_at (place_cmp place)) entries ≡ None
+      → list_any is_own (map dep_at entries) ≡ false)
+      → lookup (is_at (place_cmp place)) (e ∷ entries) ≡ None
+      → (o : Ordering) → place_cmp place e.0 ≡ o
+      → Tells (place_cmp place e.0) (version_at place) (version_at e.0)
+      → list_any is_own (map dep_at (e ∷ entries)) ≡ false
+  one_absent e entries rest none Less c told =
+      let version : Dep = version_at e.0 in
+      let is : Tells Less (version_at place) version =
+      subst (λ (o : Ordering). Tells o (version_at place) version) c told in
+      let apart = λ (same : version ≡ version_at place).
+      not_both (comes_after (version_at place) version) is.1
+      (ap (comes_after (version_at place)) same ∙ not_after_itself (version_at place)) in
+      let others : lookup (is_at (place_cmp place)) entries ≡ None = rw c at none in
+      rw (apart_named (version_at place) version e.1 apart) (rest others)
+  one_absent e entries rest none Equal c told =
+      let found : Some e.1 ≡ None = rw c at none in
+      absurd cc
+  one_absent e entries rest none Greater c told =
+      let version : Dep = version_at e.0 in
+      let is : comes_after version (version_at place) ≡ true =
+      subst (λ (o : Ordering). Tells o (version_at place) version) c told in
+      let apart = λ (same : version ≡ version_at place).
+      not_both (comes_after version (version_at place)) is
+      (ap (λ (v : Dep). comes_after v (version_at place)) same
+      ∙ not_after_itself (version_at place)) in
+      let others : lookup (is_at (place_cmp place)) entries ≡ None = rw c at none in
+      rw (apart_named (version_at place) version e.1 apart) (rest others)
+
+  -- Then no dependency is of the version.
+  pub none_named : (entries : List Entry) → lookup (is_at (place_cmp place)) entries ≡ None
+      → list_any (is_named place.0.1 place.0.0) (map dep_at entries) ≡ false
+  none_named [] none = refl
+  none_named (e ∷ entries) none =
+      one_absent e entries (none_named entries) none (place_cmp place e.0) refl
+      (tells (version_at place) (version_at e.0))
+
   -- ---- what is found at the place
 
   -- Whether a digest that is found is another.

@@ -1,6 +1,7 @@
 -- What is returned for bytes follows from the verdict on the proof that they spell.
 use Rattle.std.proofs.Common.{◌≡◌, ◌∙◌, ℕ, ◌<◌, ◌^◌, List, Option, Result, Ok, Err}
 use Rattle.std.proofs.Common.{IfOk, IfErr, IfSome, IsSomeAnd, sym, ap, subst}
+use Rattle.std.specs.Prelude.{IsOk}
 use Rattle.lc_base.specs.Answers.{Answers}
 use Rattle.lc_base.specs.declared.digest.Digest.{Digest}
 use Rattle.lc_base.specs.declared.row.Row.{Row}
@@ -24,6 +25,7 @@ use Rattle.trace_verifier.specs.Errors.{fault_told}
 use Rattle.trace_verifier.specs.Reading.{trace_in}
 use Rattle.trace_verifier.specs.Verdicts.{fault_of_view, malformed_at, verdict_of_read}
 use Rattle.trace_verifier.specs.Verdicts.{trace_verdict_on}
+use Rattle.trace_verifier.specs.Wanting.{Wants, MayRunOut}
 
 abbrev read : TraceProof → Result TraceProof ViewError
 read trace = Ok trace
@@ -63,6 +65,15 @@ module _ (root key : List ℕ) (at : ℕ) (bytes : List ℕ) where
       IfErr (verdict root (start_query key at) trace.start) P in
       subst fails (read_is view given same) told
 
+  pub read_refused : (view given : TraceProof) (result : Result (Option Trace) TraceError)
+      → Ok view ≡ read given
+      → IfErr result (MayRunOut (Wants view) (IsOk (trace_verdict root key at view)))
+      → IfErr result (MayRunOut (Wants given) (IsOk (trace_verdict root key at given)))
+  read_refused view given result same told =
+      let may = λ (trace : TraceProof).
+      IfErr result (MayRunOut (Wants trace) (IsOk (trace_verdict root key at trace))) in
+      subst may (read_is view given same) told
+
   pub read_sound : (given : TraceProof) (result : Result (Option Trace) TraceError)
       → IsTraceProof given
       → Answers (λ shown. shown) fault_told result (trace_verdict root key at given)
@@ -80,7 +91,7 @@ module _ (root key : List ℕ) (at : ℕ) (bytes : List ℕ) where
   unread_exact (Malformed offset) fault same is =
       ap (verdict_of_read root key at) is ∙ ap refused (sym same)
 
-pub unread_malformed : (bytes : List ℕ) (error : ViewError) (fault : TraceReject)
-    → fault ≡ fault_of_view error → IfSome (told_at error) (λ offset. trace_in bytes ≡ Err offset)
-    → IsSomeAnd (malformed_at (Rejected fault)) (λ offset. trace_in bytes ≡ Err offset)
-unread_malformed bytes (Malformed offset) fault same is = rw same is
+pub unread_malformed : (P : ℕ → Type 0) (error : ViewError) (fault : TraceReject)
+    → fault ≡ fault_of_view error → IfSome (told_at error) P
+    → IsSomeAnd (malformed_at (Rejected fault)) P
+unread_malformed P (Malformed offset) fault same is = rw same is

@@ -1,4 +1,4 @@
-//! A proof of ancestors shows nothing for one of two reasons.
+//! A proof of ancestors shows nothing if a check fails, or if memory runs out in one of two places.
 
 ghost use Rattle.std.specs.Prelude.{◌≡◌};
 ghost use Rattle.trace_verifier.specs.declared.error.TraceError.TheVariants.{Memory as NoMemory};
@@ -11,7 +11,9 @@ use proof_verifier::TraceReject;
 pub enum TraceError {
     /// A check fails.
     Rejected(TraceReject),
-    /// Out of memory.
+    /// Out of memory for a version that the item with this number wants; the start is item 0.
+    WantedMemory { item: u32 },
+    /// Out of memory for the versions that an accepted proof shows.
     Memory,
 }
 

@@ -1,20 +1,23 @@
 //! The items are checked one after another. What is wanted before an item is kept in order, so that
-//! the version that the item must be is found at once.
+//! the version that the item must be is found at once; nothing else takes memory. Their versions
+//! are copied once all are checked.
 
 ghost use Rattle.std.specs.{
-  Prelude.{◌≡◌, ◌≤◌, ◌++◌, ◌∷◌, [], length, OnOk},
+  Prelude.{◌≡◌, ◌≤◌, ◌++◌, ◌∷◌, [], length, map, IfOk, IfErr, OnOk},
   Option.{option_map},
 };
 ghost use Rattle.lc_base.specs.{Answers.{Answers}, declared.limits.TheConstants.{MAX_ROWS}};
 ghost use Rattle.proof_verifier.specs.proof_checks.TraceChecks.{
   with_deps,
   after_item,
+  after_items,
   version_of_item,
 };
 ghost use Rattle.trace_verifier.specs.{
   Errors.{fault_told},
   Starting.{wanted_in},
-  Items.{item_fault, items_passed},
+  Items.{item_fault},
+  Wanting.{DepsWant, ItemWants, ItemsWant, StartWants, MayRunOut},
 };
 
 use crate::error::TraceError;
@@ -28,14 +31,17 @@ use prov_entry::BodyDep;
 use std::alloc::Global;
 
 /// Inserts all dependencies of the item with this number, in the order of its body.
+#[tactic(auto, using(crate::proofs::Wanting::deps_later, crate::proofs::Wanting::dep_short))]
 fn add_all(
     number: u32,
     block: u32,
     deps: BodyDepView,
     wanted: &mut Wanted,
 ) -> Result<(), TraceError>
-    ensures { Answers (λ done. wanted.new) fault_told result
+    ensures adds { Answers (λ done. wanted.new) fault_told result
         (with_deps number block deps.entry wanted.old) }
+    ensures short { IfErr result (MayRunOut
+        (λ short. (short ≡ number) × DepsWant number block deps.entry wanted.old) ⊥) }
 {
     let mut deps = deps;
     while let Some(dep) = deps.next() {
@@ -50,8 +56,10 @@ pub(crate) fn wanted_by_start(
     block: Option<u32>,
     body: Option<&BodyView>,
 ) -> Result<Wanted, TraceError>
-    ensures { Answers (λ wanted. wanted) fault_told result
+    ensures wanted { Answers (λ wanted. wanted) fault_told result
         (wanted_in block (option_map (λ body. body.now.value) body.entry)) }
+    ensures short { IfErr result (MayRunOut (λ short. (short ≡ 0)
+        × StartWants block (option_map (λ body. body.now.value) body.entry)) ⊥) }
 {
     let mut wanted = Wanted::new(alloc);
     let Some(block) = block else {
@@ -93,9 +101,12 @@ fn item_fault(number: u32, item: &ItemView, last: &BodyDep) -> Option<TraceRejec
 
 /// Checks the item with this number: it must be the last version that is wanted, which is wanted no
 /// more; what it was derived from directly is.
+#[tactic(auto, using(crate::proofs::Wanting::last_short))]
 fn check_item(number: u32, item: &ItemView, wanted: &mut Wanted) -> Result<(), TraceError>
-    ensures { Answers (λ done. wanted.new) fault_told result
+    ensures checked { Answers (λ done. wanted.new) fault_told result
         (after_item number item.now wanted.old) }
+    ensures short { IfErr result (MayRunOut
+        (λ short. (short ≡ number) × ItemWants number item.now wanted.old) ⊥) }
 {
     let Some(last) = wanted.take_last() else {
         return Err(TraceError::Rejected(TraceReject::Extra { item: number }));
@@ -105,6 +116,28 @@ fn check_item(number: u32, item: &ItemView, wanted: &mut Wanted) -> Result<(), T
     }
     let block = item.header.fields().block;
     add_all(number, block, item.body.deps(), wanted)
+}
+
+/// Checks all items, given what is wanted before the first one. Nothing must be wanted after the
+/// last one.
+#[tactic(auto, using(crate::proofs::Wanting::items_later, crate::proofs::Wanting::item_short))]
+pub(crate) fn check_items(items: ItemsView, wanted: Wanted) -> Result<(), TraceError>
+    requires { length items ≤ MAX_ROWS }
+    ensures checked { Answers (λ done. tt) fault_told result
+        (after_items 1 items.entry wanted) }
+    ensures short { IfErr result (MayRunOut (ItemsWant 1 items.entry wanted) ⊥) }
+{
+    let mut items = items;
+    let mut wanted = wanted;
+    let mut number = 1;
+    while let Some(item) = items.next() {
+        check_item(number, &item, &mut wanted)?;
+        number += 1;
+    }
+    match wanted.take_last() {
+        None => Ok(()),
+        Some(_) => Err(TraceError::Rejected(TraceReject::Missing { item: number })),
+    }
 }
 
 /// Appends the version of an item.
@@ -118,28 +151,14 @@ fn push_version(versions: &mut DepList, item: &ItemView) -> Result<(), Memory>
     })
 }
 
-/// Checks all items, given what is wanted before the first one, and returns their versions in their
-/// order. Nothing must be wanted after the last one.
-pub(crate) fn check_items(
-    alloc: Global,
-    items: ItemsView,
-    wanted: Wanted,
-) -> Result<DepList, TraceError>
-    requires { length items ≤ MAX_ROWS }
-    ensures { Answers (λ versions. versions) fault_told result
-        (items_passed items.entry wanted) }
+/// Copies the versions of the items, in their order.
+pub(crate) fn versions_of(alloc: Global, items: ItemsView) -> Result<DepList, Memory>
+    ensures { IfOk result (λ versions. versions ≡ map version_of_item items.entry) }
 {
     let mut items = items;
-    let mut wanted = wanted;
     let mut versions = DepList::new(alloc);
-    let mut number = 1;
     while let Some(item) = items.next() {
-        check_item(number, &item, &mut wanted)?;
         push_version(&mut versions, &item)?;
-        number += 1;
     }
-    match wanted.take_last() {
-        None => Ok(versions),
-        Some(_) => Err(TraceError::Rejected(TraceReject::Missing { item: number })),
-    }
+    Ok(versions)
 }

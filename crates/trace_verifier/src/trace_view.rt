@@ -1,7 +1,7 @@
 //! `view_trace` checks that bytes are a whole trace; every part of a `TraceView` is read from the
 //! bytes that it checked.
 
-ghost use Rattle.std.specs.Prelude.{◌≡◌, Some, Ok, IfOk};
+ghost use Rattle.std.specs.Prelude.{◌≡◌, Some, Ok, IfOk, IfErr, IfSome};
 ghost use Rattle.lc_base.specs.Answers.{Answers};
 ghost use Rattle.byte_fields.specs.Reader.{fault_left, Reads, ReadsAs};
 ghost use Rattle.proof_codec.specs.Viewing.{told_at};
@@ -9,12 +9,9 @@ ghost use Rattle.proof_verifier.specs.{
   proof_checks.TraceSpelling.{SpellsTrace},
   proof_checks.declared.trace_proof.TraceProof.{TraceProof as TraceValue},
 };
-ghost use Rattle.trace_verifier.specs.Reading.{
-  magic_at,
-  proof_of_length,
-  start_at,
-  trace_proof_at,
-  trace_in,
+ghost use Rattle.trace_verifier.specs.{
+  Malformed.{IsInvalidAt},
+  Reading.{magic_at, proof_of_length, start_at, trace_proof_at, trace_in},
 };
 
 use crate::items_view::{ItemsView, read_items};
@@ -140,6 +137,8 @@ pub fn view_trace<'p>(bytes: &'p [u8]) -> Result<TraceView<'p>, ViewError>
     ensures found { IfOk result (λ trace. SpellsTrace bytes.now trace) }
     // What the bytes spell is read.
     ensures only { (trace : TraceValue) → SpellsTrace bytes.now trace → result ≡ Ok trace }
+    // An error has the offset of the fault.
+    ensures fault { IfErr result (λ error. IfSome (told_at error) (IsInvalidAt bytes.now)) }
     // The result is that of the function that defines what bytes are as a trace.
     ensures exact { Answers (λ trace. trace) told_at result (trace_in bytes.now) }
 {

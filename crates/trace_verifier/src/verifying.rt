@@ -1,8 +1,8 @@
 //! The checks of a proof of ancestors run in a fixed order: the bytes, the start, what the start
-//! wants, the items.
+//! wants, the items. What is shown is copied after them.
 
 ghost use Rattle.std.specs.Prelude.{◌≡◌, ◌≤◌, ◌<◌, ◌^◌, ℕ, List, Ok, Err, reverse, length};
-ghost use Rattle.std.specs.Prelude.{IfOk, IfErr, IsErrAnd, IsSomeAnd};
+ghost use Rattle.std.specs.Prelude.{IfOk, IfErr, IsOk, IsErrAnd, IsSomeAnd};
 ghost use Rattle.lc_base.specs.{
   Answers.{Answers},
   declared.digest.Digest.{Digest as DigestValue},
@@ -20,15 +20,16 @@ ghost use Rattle.proof_verifier.specs.{
 };
 ghost use Rattle.root_laws.specs.{Root.{root_of}, TypedLedger.{IsTypedHistory}};
 ghost use Rattle.trace_verifier.specs.{
-  Reading.{trace_in},
+  Malformed.{IsInvalidAt},
   Errors.{fault_told},
   declared.error.TraceError.TheVariants.{Rejected},
   Items.{shown_in, shown_after},
+  Wanting.{AnyWants, Wants, MayRunOut},
   Verdicts.{fault_of_view, malformed_at, trace_verdict_on},
 };
 
 use crate::error::TraceError;
-use crate::items::{check_items, wanted_by_start};
+use crate::items::{check_items, versions_of, wanted_by_start};
 use crate::start::judge_start;
 use crate::trace_view::{TraceView, view_trace};
 use lc_base::{DepList, Digest, Key};
@@ -71,19 +72,23 @@ fn shown(block: Option<u32>, versions: DepList) -> Option<Trace>
 
 /// What a proof shows whose start is of a version in this block, or of none; or the first check
 /// after those of the start that fails.
+#[tactic(auto, using(crate::proofs::Wanting::start_short, crate::proofs::Wanting::items_short))]
 fn judge_items(
     alloc: Global,
     block: Option<u32>,
     trace: &TraceView,
 ) -> Result<Option<Trace>, TraceError>
     requires { length trace.now.items ≤ MAX_ROWS }
-    ensures { Answers (λ shown. shown) fault_told result
+    ensures judged { Answers (λ shown. shown) fault_told result
         (shown_after block trace.now.start.body trace.now.items) }
+    ensures refused { IfErr result (MayRunOut
+        (AnyWants block trace.now.start.body trace.now.items)
+        (IsOk (shown_after block trace.now.start.body trace.now.items))) }
 {
     let start = trace.start();
     let wanted = wanted_by_start(alloc, block, start.body())?;
-    let versions = check_items(alloc, trace.items(), wanted)?;
-    Ok(shown(block, versions))
+    check_items(trace.items(), wanted)?;
+    Ok(shown(block, versions_of(alloc, trace.items())?))
 }
 
 /// What a proof that was read shows, or the first check that fails.
@@ -99,6 +104,8 @@ fn judge_trace(
         (trace_verdict root.now.0 key.now at trace.now) }
     ensures start { IfErr (verdict root.now.0 (start_query key.now at) trace.now.start)
         (λ fault. result ≡ Err (Rejected (Start fault))) }
+    ensures refused { IfErr result (MayRunOut (Wants trace.now)
+        (IsOk (trace_verdict root.now.0 key.now at trace.now))) }
 {
     match judge_start(root, key, at, trace.start()) {
         Ok(block) => judge_items(alloc, block, trace),
@@ -124,10 +131,17 @@ pub fn verify_trace(
     ensures start { (given : TraceValue) → SpellsTrace bytes.now given
         → IfErr (verdict root.now.0 (start_query key.now at) given.start)
         (λ fault. result ≡ Err (Rejected (Start fault))) }
+    // So is any other check that fails, unless memory runs out before it for what an item wants:
+    // for a version that becomes wanted there, where no check before fails. Memory for the versions
+    // that are shown runs out only if no check fails.
+    ensures refused { (given : TraceValue) → SpellsTrace bytes.now given
+        → IfErr result (MayRunOut (Wants given)
+        (IsOk (trace_verdict root.now.0 key.now at given))) }
     // If they aren't, so is the offset of the first invalid field.
     ensures malformed { ((given : TraceValue) → SpellsTrace bytes.now given → ⊥)
-        → IsErrAnd result (λ error.
-        IsSomeAnd (malformed_at error) (λ offset. trace_in bytes.now ≡ Err offset)) }
+        → IsErrAnd result (λ error. IsSomeAnd (malformed_at error) (IsInvalidAt bytes.now)) }
+    // Only one offset is that of an invalid field.
+    ensures one_offset { (a b : ℕ) → IsInvalidAt bytes.now a → IsInvalidAt bytes.now b → a ≡ b }
     // What is shown are all ancestors of the version in every typed history that has the root at
     // some block, up to that block; or a text of the proof and one of the history differ and have
     // one digest.

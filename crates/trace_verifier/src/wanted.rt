@@ -1,7 +1,7 @@
 //! An ordered map by block and key, in reverse: its first entry is the last version that is wanted.
 
 ghost use Rattle.std.specs.{
-  Prelude.{◌≡◌, ◌∷◌, [], false, MatchOption, IfNone, OnOk, OnErr},
+  Prelude.{◌≡◌, ◌∷◌, [], false, MatchOption, IfNone, IfErr, OnOk, OnErr},
   List.{list_any},
 };
 ghost use Rattle.lc_base.specs.Answers.{Answers};
@@ -9,8 +9,8 @@ ghost use Rattle.proof_verifier.specs.{
   proof_checks.TraceChecks.{has_other_digest, with_dep},
   proof_checks.Checks.{dep_of},
 };
-ghost use Rattle.root_laws.specs.Ancestors.{inserted};
-ghost use Rattle.trace_verifier.specs.Errors.{fault_told};
+ghost use Rattle.root_laws.specs.{Ancestors.{inserted}, Naming.{is_named}};
+ghost use Rattle.trace_verifier.specs.{Errors.{fault_told}, Wanting.{BecomesWanted, MayRunOut}};
 
 use crate::error::TraceError;
 use lc_base::{Digest, Key, Memory};
@@ -72,12 +72,14 @@ impl Wanted {
     }
 
     /// Inserts a dependency whose version isn't wanted by another digest. If memory runs out,
-    /// nothing changes.
+    /// which it does only if the version isn't wanted yet, nothing changes.
     #[tactic(auto, using(crate::proofs::Placed::put_in))]
     fn put(&mut self, dep: &BodyDep) -> Result<(), Memory>
         requires { list_any (has_other_digest dep.now) self.old ≡ false }
         ensures ok { OnOk result (self.new ≡ inserted dep_of dep.now self.old) }
         ensures err { OnErr result (self.new ≡ self.old) }
+        ensures short { OnErr result
+            (list_any (is_named dep.now.key dep.now.block) self.old ≡ false) }
     {
         self.entries
             .insert(Reverse((dep.block, dep.key)), dep.digest)?;
@@ -86,12 +88,15 @@ impl Wanted {
 
     /// Inserts a dependency of the item with this number, whose version is in `block`. An error if
     /// its version isn't of an earlier block, if it is wanted by another digest, or if memory runs
-    /// out; then nothing changes. A dependency that is wanted already changes nothing either.
-    #[tactic(auto, using(crate::proofs::Adding::one_added))]
+    /// out; then nothing changes. A dependency that is wanted already changes nothing either, and
+    /// takes no memory.
+    #[tactic(auto, using(crate::proofs::Adding::one_added, crate::proofs::Adding::becomes_wanted))]
     pub fn add(&mut self, item: u32, block: u32, dep: &BodyDep) -> Result<(), TraceError>
         ensures adds { Answers (λ done. self.new) fault_told result
             (with_dep item block dep.now self.old) }
         ensures err { OnErr result (self.new ≡ self.old) }
+        ensures short { IfErr result (MayRunOut
+            (λ short. (short ≡ item) × BecomesWanted block dep.now self.old) ⊥) }
     {
         if dep.block >= block {
             return Err(TraceError::Rejected(TraceReject::Late { item }));
@@ -101,7 +106,7 @@ impl Wanted {
         }
         match self.put(dep) {
             Ok(()) => Ok(()),
-            Err(Memory) => Err(TraceError::Memory),
+            Err(Memory) => Err(TraceError::WantedMemory { item }),
         }
     }
 }

@@ -223,15 +223,17 @@ const READS_FAR: [(bool, Act); 4] = [
     (false, Act::Remove),
 ];
 
-/// Of two machines over one file, the first one that syncs or writes locks it; the other may read.
-/// Once the file is removed, nothing is written to it.
-const LOCKS: [(bool, Act); 9] = [
+/// Of two machines over one file, the first one that syncs or writes locks it; the other may read,
+/// but returns no length once its own sync has failed. Once the file is removed, nothing is written
+/// to it.
+const LOCKS: [(bool, Act); 10] = [
     (false, Act::Sync(Ok(()))),
     (true, Act::Len(Ok(7))),
     (true, Act::Sync(Err(Failed))),
     (true, Act::Write(7, b"!", Err(Failed))),
+    (true, Act::Len(Err(Failed))),
     (false, Act::Write(7, b".", Ok(()))),
-    (true, Act::Len(Ok(8))),
+    (true, Act::Read(7, 1, *b".\x01\x01\x01\x01\x01\x01\x01")),
     (false, Act::Remove),
     (false, Act::Sync(Err(Failed))),
     (false, Act::Gone),

@@ -2,7 +2,7 @@ use Rattle.std.proofs.Common.{◌∙◌, refl, rules}
 use Rattle.disk_model.proofs.Calls.{stay_keeps}
 use Rattle.block_log.specs.Log.{next_in_log}
 use Rattle.cli_promises.specs.recovery.Node.{next_in_chain, logged_in}
-use Rattle.merkle_dag.proofs.Causes.{blameless, unblamed}
+use Rattle.merkle_dag.proofs.Causes.{unblamed}
 use Rattle.cli_promises.specs.Appending.{Grows}
 use Rattle.cli_promises.specs.declared.ending.RunStop.TheVariants as stops
 use Rattle.cli_append.proofs.Loop.{goes_still}
@@ -16,7 +16,20 @@ returns-in-Ok-Whole-clause-appends g c known first input is left =
     all_appended g.M.Clock.now g.M.Clock.disk g.M.Clock.told g.M.Clock.disk_faults
     g.M.Clock.wire_faults g.S.Scratch.state g.S.Scratch.scratch_faults _ _ _ c.requires.ready known
     first input is left
-    c.in-Ok-Whole.longer takes
+    c.in-Ok-Whole.longer c.end_whole.new.machine c.end_whole.result takes c.end_whole.ensures.disk
+    c.end_whole.ensures.wire.told c.end_whole.ensures.end
+
+pub returns-in-Ok-Whole-clause-goes_on : goal.returns-in-Ok-Whole-clause-goes_on
+returns-in-Ok-Whole-clause-goes_on g c known first is is_told =
+    goes_still g.M.Clock.now g.M.Clock.disk g.M.Clock.told c.args.machine.now
+    c.take_all.new.machine c.end_whole.new.machine (logged_in c.args.node.log first)
+    (c.take_all.ensures.goes_on known first is is_told) c.end_whole.ensures.disk
+
+pub returns-in-Ok-Whole-clause-log_goes_on : goal.returns-in-Ok-Whole-clause-log_goes_on
+returns-in-Ok-Whole-clause-log_goes_on g c content content_is =
+    stay_keeps g.M.Clock.now g.M.Clock.disk c.args.machine.now c.take_all.new.machine
+    c.end_whole.new.machine (Grows next_in_log content)
+    (c.take_all.ensures.log_goes_on content content_is) c.end_whole.ensures.disk
 
 pub returns-in-Ok-Refused-clause-appends : goal.returns-in-Ok-Refused-clause-appends
 returns-in-Ok-Refused-clause-appends g c known first input is left =
@@ -73,19 +86,22 @@ returns-in-Ok-Refused-clause-untold g c =
 
 pub returns-in-Ok-Whole-clause-unreadable : goal.returns-in-Ok-Whole-clause-unreadable
 returns-in-Ok-Whole-clause-unreadable g c =
-    blameless _ _ (unblamed _ _ c.in-Ok-Whole.ensures.unreadable)
+    none_blamed _ _ _ (unblamed _ _ c.in-Ok-Whole.ensures.unreadable) c.end_whole.ensures.reads
 
 pub returns-in-Ok-Whole-clause-disk_fault : goal.returns-in-Ok-Whole-clause-disk_fault
 returns-in-Ok-Whole-clause-disk_fault g c =
-    blameless _ _ (unblamed _ _ c.in-Ok-Whole.ensures.disk_fault)
+    carried _ _ _ _ _ (unblamed _ _ c.in-Ok-Whole.ensures.disk_fault) c.end_whole.ensures.disk_fault
+    (λ blames. blames) (λ blames. blames)
 
 pub returns-in-Ok-Whole-clause-scratch_fault : goal.returns-in-Ok-Whole-clause-scratch_fault
 returns-in-Ok-Whole-clause-scratch_fault g c =
-    blameless _ _ (unblamed _ _ c.in-Ok-Whole.ensures.scratch_fault)
+    none_blamed _ _ _ (unblamed _ _ c.in-Ok-Whole.ensures.scratch_fault) c.end_whole.ensures.keeps
 
 pub returns-in-Ok-Whole-clause-untold : goal.returns-in-Ok-Whole-clause-untold
 returns-in-Ok-Whole-clause-untold g c =
-    blameless _ _ (unblamed _ _ c.in-Ok-Whole.ensures.untold)
+    none_blamed _ _ _
+    (c.end_whole.ensures.wire.faults ∙ unblamed _ _ c.in-Ok-Whole.ensures.untold)
+    c.end_whole.ensures.tells
 
 pub returns-in-Ok-Refused-clause-unreadable : goal.returns-in-Ok-Refused-clause-unreadable
 returns-in-Ok-Refused-clause-unreadable g c =

@@ -1,4 +1,4 @@
-use Rattle.std.proofs.Common.{refl, ◌∙◌, rules}
+use Rattle.std.proofs.Common.{refl, rules}
 use Rattle.disk_model.proofs.Calls.{stay_keeps}
 use Rattle.block_log.specs.Log.{next_in_log}
 use Rattle.cli_promises.specs.recovery.Node.{next_in_chain, logged_in}
@@ -21,7 +21,7 @@ returns-in-Ok-Whole-clause-follows g c known blocks input is left =
     known (started blocks c.args.node.log.is_marked) input
     (record { node = is; marked = refl; waiting = refl }) left
     c.in-Ok-Whole.following c.tell_end.new.machine c.tell_end.result takes
-    c.tell_end.ensures.disk.stays (c.tell_end.ensures.lines next_in_chain) c.tell_end.ensures.end
+    c.tell_end.ensures.disk (c.tell_end.ensures.lines next_in_chain) c.tell_end.ensures.end
 
 pub returns-in-Ok-Refused-clause-follows : goal.returns-in-Ok-Refused-clause-follows
 returns-in-Ok-Refused-clause-follows g c known blocks input is left =
@@ -68,13 +68,13 @@ pub returns-in-Ok-Whole-clause-goes_on : goal.returns-in-Ok-Whole-clause-goes_on
 returns-in-Ok-Whole-clause-goes_on g c known blocks is is_told =
     stay_keeps g.M.Clock.now g.M.Clock.disk c.args.machine.now c.deliver_all.new.machine
     c.tell_end.new.machine (GoesFrom (logged_in c.args.node.log blocks))
-    (c.deliver_all.ensures.goes_on known blocks is is_told) c.tell_end.ensures.disk.stays
+    (c.deliver_all.ensures.goes_on known blocks is is_told) c.tell_end.ensures.disk
 
 pub returns-in-Ok-Whole-clause-log_goes_on : goal.returns-in-Ok-Whole-clause-log_goes_on
 returns-in-Ok-Whole-clause-log_goes_on g c content content_is =
     stay_keeps g.M.Clock.now g.M.Clock.disk c.args.machine.now c.deliver_all.new.machine
     c.tell_end.new.machine (Grows next_in_log content)
-    (c.deliver_all.ensures.log_goes_on content content_is) c.tell_end.ensures.disk.stays
+    (c.deliver_all.ensures.log_goes_on content content_is) c.tell_end.ensures.disk
 
 pub returns-in-Ok-Whole-clause-untold : goal.returns-in-Ok-Whole-clause-untold
 returns-in-Ok-Whole-clause-untold g c =
@@ -104,9 +104,8 @@ returns-in-Ok-Whole-clause-unreadable g c =
 
 pub returns-in-Ok-Whole-clause-disk_fault : goal.returns-in-Ok-Whole-clause-disk_fault
 returns-in-Ok-Whole-clause-disk_fault g c =
-    none_blamed _ _ _
-    (c.tell_end.ensures.disk.faults ∙ unblamed _ _ c.in-Ok-Whole.ensures.disk_fault)
-    c.tell_end.ensures.writes
+    carried _ _ _ _ _ (unblamed _ _ c.in-Ok-Whole.ensures.disk_fault) c.tell_end.ensures.disk_fault
+    (λ blames. blames) (λ blames. blames)
 
 pub returns-in-Ok-Whole-clause-scratch_fault : goal.returns-in-Ok-Whole-clause-scratch_fault
 returns-in-Ok-Whole-clause-scratch_fault g c =

@@ -7,7 +7,7 @@ use Rattle.range_proof.proofs.Walking.{IsWalked}
 use Rattle.range_proof.proofs.between.indexes_between.Given as goal
 
 abbrev pub invariant-loop-next : goal.invariant-loop-next
-invariant-loop-next l = record {
+invariant-loop-next g l = record {
   walked : IsWalked l.lineage.rows l.key l.from l.to l.found l.next;
   some : 1 ≤ length l.found;
   counted : l.steps ≡ raised_count l.fn.steps
@@ -16,4 +16,4 @@ invariant-loop-next l = record {
 }
 
 abbrev pub decreases-loop-next : goal.decreases-loop-next
-decreases-loop-next l = turns_left l.next
+decreases-loop-next g l = turns_left l.next

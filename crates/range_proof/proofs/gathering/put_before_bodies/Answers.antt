@@ -7,7 +7,7 @@ use Rattle.range_proof.proofs.Made.{before_bodies}
 use Rattle.range_proof.proofs.gathering.put_before_bodies.Goals as goal
 
 pub put_leaf_proof-requires : goal.put_leaf_proof-requires
-put_leaf_proof-requires c =
+put_leaf_proof-requires g c =
     let lineage = c.args.lineage.now in
     let asked = c.args.asked.now in
     let within : asked.root_at < length lineage.digests = omega (arith, c.requires.last) in
@@ -21,7 +21,7 @@ put_leaf_proof-requires c =
     c.requires.digest c.in_ok-leaf_proof.ensures
 
 pub put_headers-requires-clause-path : goal.put_headers-requires-clause-path
-put_headers-requires-clause-path c =
+put_headers-requires-clause-path g c =
     let lineage = c.args.lineage.now in
     let asked = c.args.asked.now in
     path_within lineage.rows lineage.digests asked.root_at asked.key asked.from asked.to
@@ -29,10 +29,10 @@ put_headers-requires-clause-path c =
     c.row_count-rows.ensures.ledger.within)
     c.as_slice.result.now c.row_count-rows.ensures.ledger.lawful
     (subst (AreEntriesIn lineage.rows asked.key (path lineage.rows asked.key asked.to))
-    (sym c.as_slice.ensures) c.in_ok-path.ensures)
+    (sym c.as_slice.ensures) c.in_ok-path.ensures.path)
 
 pub put_headers-requires-clause-further : goal.put_headers-requires-clause-further
-put_headers-requires-clause-further c =
+put_headers-requires-clause-further g c =
     let lineage = c.args.lineage.now in
     let asked = c.args.asked.now in
     further_within lineage.rows lineage.digests asked.root_at asked.key asked.from asked.to
@@ -42,7 +42,7 @@ put_headers-requires-clause-further c =
     c.after_first-further.ensures
 
 pub put_headers-requires-clause-few : goal.put_headers-requires-clause-few
-put_headers-requires-clause-few c =
+put_headers-requires-clause-few g c =
     let lineage = c.args.lineage.now in
     let asked = c.args.asked.now in
     let within : asked.root_at < length lineage.digests = omega (arith, c.requires.last) in
@@ -55,11 +55,11 @@ put_headers-requires-clause-few c =
     asked.from asked.to c.row_count-rows.ensures.typed within c.as_bytes-key.ensures.is_key
     c.requires.in_order c.requires.early)
     (subst (AreEntriesIn lineage.rows asked.key (path lineage.rows asked.key asked.to))
-    (sym c.as_slice.ensures) c.in_ok-path.ensures)
+    (sym c.as_slice.ensures) c.in_ok-path.ensures.path)
     c.requires.back c.after_first-further.ensures
 
 pub returns : goal.returns
-returns c =
+returns g c =
     let lineage = c.args.lineage.now in
     let asked = c.args.asked.now in
     before_bodies lineage.rows lineage.digests asked.root_at asked.key asked.from asked.to
@@ -70,6 +70,6 @@ returns c =
     c.put_leaf_proof.new.out.items c.put_headers.new.out.items
     c.row_count-rows.ensures.ledger.lawful c.requires.digest c.in_ok-leaf_proof.ensures
     (subst (AreEntriesIn lineage.rows asked.key (path lineage.rows asked.key asked.to))
-    (sym c.as_slice.ensures) c.in_ok-path.ensures)
+    (sym c.as_slice.ensures) c.in_ok-path.ensures.path)
     c.requires.back c.after_first-further.ensures c.in_ok-put_front.ensures
     c.in_ok-put_leaf_proof.ensures c.in_ok-put_headers.ensures

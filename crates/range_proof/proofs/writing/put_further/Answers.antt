@@ -5,10 +5,10 @@ use Rattle.range_proof.specs.Parts.{header_fields_at}
 use Rattle.range_proof.proofs.writing.put_further.Goals as goal
 
 pub put_header-requires : goal.put_header-requires
-put_header-requires c = c.requires c.loop-index.index-index 0 c.loop-index-test.true
+put_header-requires g c = c.requires c.loop-index.index-index 0 c.loop-index-test.true
 
 pub loop-index-preserved : goal.loop-index-preserved
-loop-index-preserved c =
+loop-index-preserved g c =
     let further = c.args.further.now in
     let i = c.loop-index.index-index in
     let index = get_or further i 0 in

@@ -4,5 +4,5 @@ use Rattle.range_proof.specs.Parts.{header_fields_at}
 use Rattle.range_proof.proofs.writing.put_further.Given as goal
 
 abbrev pub invariant-loop-index : goal.invariant-loop-index
-invariant-loop-index l = l.out.items ≡ l.fn.out.items
+invariant-loop-index g l = l.out.items ≡ l.fn.out.items
     ++ concat (flat_map (header_fields_at l.lineage.rows) (take l.index-index l.further))

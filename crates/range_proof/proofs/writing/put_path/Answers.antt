@@ -6,10 +6,10 @@ use Rattle.range_proof.specs.Parts.{header_fields_at}
 use Rattle.range_proof.proofs.writing.put_path.Goals as goal
 
 pub put_header-requires : goal.put_header-requires
-put_header-requires c = c.requires c.loop-id.id-index (record { 0 = 0 }) c.loop-id-test.true
+put_header-requires g c = c.requires c.loop-id.id-index (record { 0 = 0 }) c.loop-id-test.true
 
 pub loop-id-preserved : goal.loop-id-preserved
-loop-id-preserved c =
+loop-id-preserved g c =
     let path = c.args.path.now in
     let i = c.loop-id.id-index in
     let id : EntryId = get_or path i (record { 0 = 0 }) in

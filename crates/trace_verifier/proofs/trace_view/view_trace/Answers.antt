@@ -1,5 +1,6 @@
 use Rattle.std.proofs.Common.{arith}
 use Rattle.byte_fields.specs.Spelling.{IsBytes}
+use Rattle.trace_verifier.proofs.Malformed.{fault_this}
 use Rattle.trace_verifier.proofs.Viewed.{found_this, only_this}
 use Rattle.trace_verifier.proofs.trace_view.view_trace.Goals as goal
 
@@ -11,3 +12,8 @@ returns-clause-found c =
 pub returns-clause-only : goal.returns-clause-only
 returns-clause-only c =
     λ trace is. only_this c.args.bytes.now c.trace_in.result c.trace_in.ensures trace is
+
+pub returns-clause-fault : goal.returns-clause-fault
+returns-clause-fault c =
+    let fits : IsBytes c.args.bytes.now = λ i. omega (arith, c.type_inv.bytes i) in
+    fault_this c.args.bytes.now c.trace_in.result fits c.trace_in.ensures

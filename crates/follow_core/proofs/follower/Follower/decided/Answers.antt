@@ -36,7 +36,7 @@ with_waiting-requires g c = rw c.node_turn.ensures
 pub returns-clause-turn : goal.returns-clause-turn
 returns-clause-turn g c = rw (c.with_waiting.ensures, c.node_turn.ensures, ← c.self.view_is)
     (is_decided c.args.index c.self.inside.waiting.items c.self.inside.node c.args.bytes.now
-    c.append-answer.result c.append-answer.ensures.node)
+    c.append-answer.result c.append-answer.ensures.node c.append-answer.ensures.kept)
 
 pub returns-clause-ready : goal.returns-clause-ready
 returns-clause-ready g c = rw (c.with_waiting.ensures, c.node_turn.ensures)

@@ -4,7 +4,7 @@ use Rattle.merkle_dag.proofs.LookedAt.{count_few}
 use Rattle.merkle_dag.proofs.lineage.Lineage.latest_row.Goals as goal
 
 pub latest_row-requires : goal.latest_row-requires
-latest_row-requires c = (
+latest_row-requires g c = (
   rows_kept c.self.inside.kept.index,
   length
       c.self.inside.kept.digests.items,
@@ -12,17 +12,17 @@ latest_row-requires c = (
 )
 
 pub returns-clause-latest : goal.returns-clause-latest
-returns-clause-latest c = rw (← c.self.view_is)
+returns-clause-latest g c = rw (← c.self.view_is)
     (c.latest_row.ensures.latest (rows_kept c.self.inside.kept.index)
     (length c.self.inside.kept.digests.items) c.self.invariant.index_is)
 
 pub returns-clause-count : goal.returns-clause-count
-returns-clause-count c = rw (← c.self.view_is)
+returns-clause-count g c = rw (← c.self.view_is)
     (c.latest_row.ensures.count (rows_kept c.self.inside.kept.index)
     (length c.self.inside.kept.digests.items) c.self.invariant.index_is)
 
 pub returns-clause-few : goal.returns-clause-few
-returns-clause-few c = rw (← c.self.view_is)
+returns-clause-few g c = rw (← c.self.view_is)
     (count_few (rows_kept c.self.inside.kept.index) c.self.inside.kept.digests.items c.args.key.now
     c.args.at c.args.steps.now c.latest_row.new.steps
     c.self.invariant.ledger

@@ -10,8 +10,8 @@ use Rattle.rooted_chain.specs.chain_replay.Judging.{Taken, Known, judgement_of}
 use Rattle.rooted_chain.specs.chain_replay.declared.marking.Marking.TheVariants.{OfLog}
 use Rattle.rooted_chain.specs.chain_replay.declared.refusal.Refusal.{Refusal}
 use Rattle.rooted_chain.proofs.chain_replay.Judgements.{added}
-use Rattle.recovery.specs.Node.{NodeState, IsAppendAnswer, IsNodeOf, IsStepOf, blocks_after}
-use Rattle.recovery.specs.Node.{logged_in, stored_placement}
+use Rattle.recovery.specs.Node.{NodeState, IsAppendAnswer, IsAsJudged, IsNodeOf, IsStepOf}
+use Rattle.recovery.specs.Node.{blocks_after, logged_in, stored_placement}
 use Rattle.recovery.specs.declared.node.Appended.TheVariants as appendeds
 use Rattle.recovery.proofs.ByLog.{still_log}
 use Rattle.recovery.proofs.Leaving.{none_blamed}
@@ -103,6 +103,10 @@ returns-in-Ok-Known-clause-answer g c told blocks is =
     (judgement_of (stored_placement c.args.self.log.is_marked) blocks (block_in c.args.bytes.now))
     c.in-Ok-Known.number judged is
 
+pub returns-in-Ok-Known-clause-kept : goal.returns-in-Ok-Known-clause-kept
+returns-in-Ok-Known-clause-kept g c =
+    rw c.in-Ok-Known.field-0-is at c.in-Ok-Known.ensures.kept
+
 pub returns-in-Ok-Known-clause-node : goal.returns-in-Ok-Known-clause-node
 returns-in-Ok-Known-clause-node g c = refl
 
@@ -129,6 +133,10 @@ returns-in-Ok-Next-clause-answer g c told blocks is =
     (g.M.Clock.disk c.add.new.machine (g.M.Clock.now c.add.new.machine)) blocks j c.add.result)
     (sym a.judgement) (c.add.ensures.answer told blocks is a.judgement)
 
+pub returns-in-Ok-Next-clause-kept : goal.returns-in-Ok-Next-clause-kept
+returns-in-Ok-Next-clause-kept g c = subst (λ (j : Result Taken Refusal). IsAsJudged j c.add.result)
+    (sym (rw c.in-Ok-Next.field-0-is at c.in-Ok-Next.ensures.kept)) c.add.ensures.kept
+
 pub returns-in-Ok-Next-clause-node : goal.returns-in-Ok-Next-clause-node
 returns-in-Ok-Next-clause-node g c = c.add.ensures.node
 
@@ -149,6 +157,10 @@ returns-in-Ok-Refused-clause-answer g c told blocks is =
     let judged = rw c.in-Ok-Refused.field-0-is at (c.in-Ok-Refused.ensures.judged blocks is.kept) in
     (judged, refl, is)
 
+pub returns-in-Ok-Refused-clause-kept : goal.returns-in-Ok-Refused-clause-kept
+returns-in-Ok-Refused-clause-kept g c =
+    rw c.in-Ok-Refused.field-0-is at c.in-Ok-Refused.ensures.kept
+
 pub returns-in-Ok-Refused-clause-node : goal.returns-in-Ok-Refused-clause-node
 returns-in-Ok-Refused-clause-node g c = refl
 
@@ -167,6 +179,9 @@ returns-in-Ok-Refused-clause-scratch g c = record {
 
 pub returns-in-Err-clause-answer : goal.returns-in-Err-clause-answer
 returns-in-Err-clause-answer g c told blocks is = refl
+
+pub returns-in-Err-clause-kept : goal.returns-in-Err-clause-kept
+returns-in-Err-clause-kept g c = tt
 
 pub returns-in-Err-clause-disk_cause : goal.returns-in-Err-clause-disk_cause
 returns-in-Err-clause-disk_cause g c =

@@ -1,8 +1,0 @@
-use Rattle.std.proofs.Common.{◌≤◌, ◌-◌, length}
-use Rattle.file_machine.proofs.edge.write_whole_at.Given as goal
-
-abbrev pub invariant-loop-taken : goal.invariant-loop-taken
-invariant-loop-taken l = l.taken ≤ length l.bytes
-
-abbrev pub decreases-loop-taken : goal.decreases-loop-taken
-decreases-loop-taken l = length l.bytes - l.taken
