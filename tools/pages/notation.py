@@ -11,7 +11,7 @@ FIRST = [
     ("disk_model", "Disk", "IsImage"),
     ("cli_promises", "Promises", "Telling"),
     ("rooted_chain", "Roots", "root_in"),
-    ("cli_output", "Showing", "VerifiedAnswersHold"),
+    ("cli_output", "Showing", "ProvedAnswersHold"),
 ]
 
 # What is written, and how it is read.

@@ -1,5 +1,5 @@
 -- Each command ends only with statuses that it may end with.
-use Rattle.std.proofs.Common.{◌≡◌, ◌≤◌, inl, inr, true, false, List, ℕ, [], Option, Some, None}
+use Rattle.std.proofs.Common.{◌≡◌, inl, inr, true, false, List, ℕ, [], Option, Some, None}
 use Rattle.std.proofs.Common.{Result, Ok, Err, refl, sym, ap, ◌∙◌, subst}
 use Rattle.std.specs.Prelude.{◌⊎◌, ◌||◌, IfOk}
 use Rattle.lc_io.specs.Disk.{DiskState}
@@ -12,7 +12,9 @@ use Rattle.chain_pack.specs.declared.error.PackError.{PackError}
 use Rattle.cli_append.specs.cli_promises.declared.ending.RunEnd.{RunEnd}
 use Rattle.cli_append.specs.cli_promises.declared.ending.RunEnd.TheVariants as appends
 use Rattle.cli_append.specs.cli_promises.declared.ending.RunStop.{RunStop}
-use Rattle.cli_words.specs.Words.{CanBeGiven, IsCount}
+use Rattle.cli_words.specs.Words.{CanBeGiven, IsCount, IsQuestion}
+use Rattle.cli_words.specs.declared.question.Question.{Question}
+use Rattle.cli_words.specs.declared.question.Question.TheVariants.{Version, Ancestors, Between}
 use Rattle.cli_words.specs.declared.words.Generation.{Generation}
 use Rattle.cli_words.specs.declared.words.Command.{Command}
 use Rattle.cli_words.specs.declared.words.BlockVersion.{BlockVersion}
@@ -20,8 +22,6 @@ use Rattle.cli_words.specs.declared.words.Edition.{Edition}
 use Rattle.cli_words.specs.declared.words.Command.TheVariants.{Scan, Fmt, Pack, Gen, Load, Append}
 use Rattle.cli_words.specs.declared.words.Command.TheVariants.{Follow, Upgrade}
 use Rattle.cli_words.specs.declared.words.Command.TheVariants.{Root, Ask, Prove, Verify, Expose}
-use Rattle.cli_words.specs.declared.words.Command.TheVariants.{Trace, ProveTrace, VerifyTrace}
-use Rattle.cli_words.specs.declared.words.Command.TheVariants.{Range, ProveRange, VerifyRange}
 use Rattle.cli_words.specs.declared.words.Command.TheVariants.{MakeLight, Light}
 use Rattle.cli_lines.specs.Outcome.{status_of}
 use Rattle.cli_lines.specs.declared.outcome.Outcome.{Outcome}
@@ -38,6 +38,7 @@ use Rattle.cli_output.specs.Uses.{MadeLineage, LogAppended, LogMarked, appends_l
 use Rattle.cli_output.specs.Uses.{is_log_asked, is_log_appended, is_log_changed}
 use Rattle.cli_output.specs.Uses.{is_frames, is_whole, keeps_bodies}
 use Rattle.cli_output.specs.Running.{MayEnd, IsSilent, found_no_log}
+use Rattle.cli_output.specs.Questions.{IsInOrder}
 use Rattle.cli_output.specs.Scanning.{EndsAsked}
 use Rattle.cli_output.specs.Telling.{status_of_result, status_of_stop, status_of_found}
 use Rattle.cli_output.specs.Telling.{OnlyReads, OnlyTells, run_answer, upgrade_answer, Tells}
@@ -217,16 +218,10 @@ changed_by Append = inr (inl refl)
 changed_by Follow = inr (inr (inl refl))
 changed_by Upgrade = inr (inr (inr refl))
 changed_by (Root at) = inl refl
-changed_by (Ask kind key at) = inl refl
-changed_by (Prove query root_at) = inl refl
-changed_by (Verify root query) = inl refl
+changed_by (Ask asked) = inl refl
+changed_by (Prove question root_at) = inl refl
+changed_by (Verify root question) = inl refl
 changed_by (Expose root query root_at) = inl refl
-changed_by (Trace key at) = inl refl
-changed_by (ProveTrace key at root_at) = inl refl
-changed_by (VerifyTrace root key at) = inl refl
-changed_by (Range key from to) = inl refl
-changed_by (ProveRange key from to root_at) = inl refl
-changed_by (VerifyRange root key from to) = inl refl
 changed_by MakeLight = inl refl
 changed_by Light = inl refl
 
@@ -288,12 +283,17 @@ lineage_ends found command given is uses ends reads =
     (may_end found (Some given) (asked_ends found (Some given) (ap is_asked uses) ends)
     (λ e. absurd (reads e)) (λ e. disk) (λ e. ap keeps_bodies uses))
 
--- the first block of a range that words can spell isn't after the last one
-pub proved_in_order : (command : Command) (key : List ℕ) (from to root_at : ℕ)
-    → command ≡ ProveRange key from to root_at → CanBeGiven command → from ≤ to
-proved_in_order command key from to root_at is given =
-    let can : CanBeGiven (ProveRange key from to root_at) = subst CanBeGiven is given in
-    can.1.in_order
+-- the blocks of a question that words can spell are in order
+in_order : (question : Question) → IsQuestion question → IsInOrder question
+in_order (Version query) is = tt
+in_order (Ancestors key at) is = tt
+in_order (Between key from to) is = is.1.in_order
+
+pub proved_in_order : (command : Command) (question : Question) (root_at : ℕ)
+    → command ≡ Prove question root_at → CanBeGiven command → IsInOrder question
+proved_in_order command question root_at is given =
+    let can : CanBeGiven (Prove question root_at) = subst CanBeGiven is given in
+    in_order question can.0
 
 -- a command that found no log uses the disk
 no_log_uses : (status : Status) (command : Option Command) → found_no_log status ≡ true

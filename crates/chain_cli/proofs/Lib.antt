@@ -11,8 +11,7 @@ pub mod Blames
 pub mod Ends
 pub mod Moments
 pub mod Held
-pub mod HeldTraces
-pub mod HeldRanges
+pub mod Ancestors
 pub mod HeldLights
 pub mod Lighted
 pub mod Followed

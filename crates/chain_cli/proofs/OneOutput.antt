@@ -24,11 +24,11 @@ use Rattle.block_codec.proofs.Decoders.{decoders_agree}
 use Rattle.block_codec.proofs.WholeBlocks.{decided}
 use Rattle.contract_parse.specs.Syntax.{Outcome as SourceOutcome, IsOutcome}
 use Rattle.contract_parse.proofs.Outcomes.{some_outcome, one_outcome}
-use Rattle.lc_base.specs.declared.answer.Query.{Query}
+use Rattle.cli_words.specs.declared.question.Question.{Question}
 use Rattle.block_codec.proofs.FrameBytes.{frame_bytes}
 use Rattle.cli_output.specs.proof_commands.Verifying.{verification}
 use Rattle.cli_output.specs.proof_commands.declared.verification.Verification.{Verification}
-use Rattle.cli_output.proofs.proof_commands.Verified.{is_verification, one_answer}
+use Rattle.cli_output.proofs.proof_commands.Verified.{is_verification, one_verification}
 use Rattle.cli_lines.specs.declared.whole.TheConstants.{MAX_WHOLE_INPUT_BYTES}
 use Rattle.chain_exec.specs.Compiled.{Compiler, compiled_in}
 use Rattle.chain_exec.specs.Laws.{OneCompiler}
@@ -42,22 +42,6 @@ use Rattle.cli_output.specs.Output.{Output, output_of, scan_output, usage_output
 use Rattle.cli_output.specs.Output.{pack_output, version_number, gen_output, load_output}
 use Rattle.cli_output.specs.Output.{append_output, append_to, follow_to, upgrade_output}
 use Rattle.cli_output.specs.Output.{root_output, ask_output, prove_output, on_log, next_by}
-use Rattle.cli_output.specs.Output.{trace_output, prove_trace_output, IsVerifyTraceOutput}
-use Rattle.cli_output.specs.Output.{LongTrace, VerifiedTrace}
-use Rattle.cli_output.specs.Traces.{trace_verification_outcome}
-use Rattle.cli_output.specs.proof_commands.TraceVerifying.{trace_verification}
-use Rattle.cli_output.specs.proof_commands.declared.trace_verification.TraceVerification.{
-  TraceVerification,
-}
-use Rattle.cli_output.proofs.proof_commands.Traced.{is_trace_verification, one_told}
-use Rattle.cli_output.specs.Output.{range_output, prove_range_output, IsVerifyRangeOutput}
-use Rattle.cli_output.specs.Output.{LongRange, VerifiedRange}
-use Rattle.cli_output.specs.Ranges.{range_verification_outcome}
-use Rattle.cli_output.specs.proof_commands.RangeVerifying.{range_verification}
-use Rattle.cli_output.specs.proof_commands.declared.range_verification.RangeVerification.{
-  RangeVerification,
-}
-use Rattle.cli_output.proofs.proof_commands.Ranged.{is_range_verification, one_range_told}
 use Rattle.cli_output.specs.Output.{edition_number, source_outcome, IsFmtOutput, Long, Source}
 use Rattle.cli_output.specs.Output.{IsVerifyOutput}
 use Rattle.cli_output.specs.Output.{LongProof, Verified, IsExposeOutput, IsOnLog, Wants, IsWanted}
@@ -69,8 +53,6 @@ use Rattle.cli_words.specs.declared.words.Command.{Command}
 use Rattle.cli_words.specs.declared.words.Command.TheVariants.{Scan, Fmt, Pack, Gen, Load, Append}
 use Rattle.cli_words.specs.declared.words.Command.TheVariants.{Follow, Upgrade}
 use Rattle.cli_words.specs.declared.words.Command.TheVariants.{Root, Ask, Prove, Verify, Expose}
-use Rattle.cli_words.specs.declared.words.Command.TheVariants.{Trace, ProveTrace, VerifyTrace}
-use Rattle.cli_words.specs.declared.words.Command.TheVariants.{Range, ProveRange, VerifyRange}
 use Rattle.cli_words.specs.declared.words.Command.TheVariants.{MakeLight, Light}
 
 -- ---- the fold, by two decoders that are right
@@ -161,35 +143,15 @@ some_fmt edition input =
       | inr fits ↦ let found = some_outcome edition input in (output_of (source_outcome found.0) [], Source fits found.0 found.1)
     ]
 
-some_verify : (root : List ℕ) (query : Query) (input : List ℕ)
-    → (output : Output) × IsVerifyOutput root query input output
-some_verify root query input =
+some_verify : (root : List ℕ) (question : Question) (input : List ℕ)
+    → (output : Output) × IsVerifyOutput root question input output
+some_verify root question input =
     elim (cases_lt MAX_WHOLE_INPUT_BYTES (length input)) [
       | inl long ↦ (long_output input, LongProof long)
-      | inr fits ↦ (output_of (verification_outcome (verification root query input)) [], Verified fits (verification root query input) (is_verification root query input))
-    ]
-
-some_verify_trace : (root key : List ℕ) (at : ℕ) (input : List ℕ)
-    → (output : Output) × IsVerifyTraceOutput root key at input output
-some_verify_trace root key at input =
-    elim (cases_lt MAX_WHOLE_INPUT_BYTES (length input)) [
-      | inl long ↦ (long_output input, LongTrace long)
       | inr fits ↦
-          let told = trace_verification root key at input in (
-            output_of (trace_verification_outcome told) [],
-            VerifiedTrace fits told (is_trace_verification root key at input),
-          )
-    ]
-
-some_verify_range : (root key : List ℕ) (from to : ℕ) (input : List ℕ)
-    → (output : Output) × IsVerifyRangeOutput root key from to input output
-some_verify_range root key from to input =
-    elim (cases_lt MAX_WHOLE_INPUT_BYTES (length input)) [
-      | inl long ↦ (long_output input, LongRange long)
-      | inr fits ↦
-          let told = range_verification root key from to input in (
-            output_of (range_verification_outcome told) [],
-            VerifiedRange fits told (is_range_verification root key from to input),
+          let found = verification root question input in (
+            output_of (verification_outcome found) [],
+            Verified fits found (is_verification root question input),
           )
     ]
 
@@ -226,22 +188,11 @@ some_output (Some Upgrade) input content =
     (over_log (λ c. upgrade_output input) input content, refl)
 some_output (Some (Root at)) input content =
     (asked (λ c blocks. root_output c at input blocks) input content, refl)
-some_output (Some (Ask kind key at)) input content =
-    (asked (λ c blocks. ask_output c kind key at input blocks) input content, refl)
-some_output (Some (Prove query root_at)) input content =
-    (asked (λ c blocks. prove_output c query root_at input blocks) input content, refl)
-some_output (Some (Verify root query)) input content = some_verify root.0 query input
-some_output (Some (Trace key at)) input content =
-    (asked (λ c blocks. trace_output c key at input blocks) input content, refl)
-some_output (Some (ProveTrace key at root_at)) input content =
-    (asked (λ c blocks. prove_trace_output c key at root_at input blocks) input content, refl)
-some_output (Some (VerifyTrace root key at)) input content = some_verify_trace root.0 key at input
-some_output (Some (Range key from to)) input content =
-    (asked (λ c blocks. range_output c key from to input blocks) input content, refl)
-some_output (Some (ProveRange key from to root_at)) input content =
-    (asked (λ c blocks. prove_range_output c key from to root_at input blocks) input content, refl)
-some_output (Some (VerifyRange root key from to)) input content =
-    some_verify_range root.0 key from to input
+some_output (Some (Ask question)) input content =
+    (asked (λ c blocks. ask_output c question input blocks) input content, refl)
+some_output (Some (Prove question root_at)) input content =
+    (asked (λ c blocks. prove_output c question root_at input blocks) input content, refl)
+some_output (Some (Verify root question)) input content = some_verify root.0 question input
 some_output (Some MakeLight) input content =
     (asked (λ c blocks. make_light_output c input blocks) input content, refl)
 some_output (Some Light) input content = (light_output input, refl)
@@ -283,35 +234,16 @@ only_fmt edition input other is =
           only_source edition input found.0 fits found.1 other is ∙ sym (only_source edition input found.0 fits found.1 (some_fmt edition input).0 (some_fmt edition input).1)
     ]
 
-only_verify : (root : List ℕ) (query : Query) (input : List ℕ) (a b : Output)
-    → IsVerifyOutput root query input a → IsVerifyOutput root query input b → a ≡ b
-only_verify root query input _ _ (LongProof _) (LongProof _) = refl
-only_verify root query input _ _ (LongProof long) (Verified fits told is) = absurd (omega (arith, long, fits))
-only_verify root query input _ _ (Verified fits told is) (LongProof long) = absurd (omega (arith, long, fits))
-only_verify root query input _ _ (Verified _ told is) (Verified _ other i) = ap (λ (v : Verification). output_of (verification_outcome v) []) (one_answer root query input told other is i)
-
-only_verify_trace : (root key : List ℕ) (at : ℕ) (input : List ℕ) (a b : Output)
-    → IsVerifyTraceOutput root key at input a → IsVerifyTraceOutput root key at input b → a ≡ b
-only_verify_trace root key at input _ _ (LongTrace _) (LongTrace _) = refl
-only_verify_trace root key at input _ _ (LongTrace long) (VerifiedTrace fits told is) =
+only_verify : (root : List ℕ) (question : Question) (input : List ℕ) (a b : Output)
+    → IsVerifyOutput root question input a → IsVerifyOutput root question input b → a ≡ b
+only_verify root question input _ _ (LongProof _) (LongProof _) = refl
+only_verify root question input _ _ (LongProof long) (Verified fits told is) =
     absurd (omega (arith, long, fits))
-only_verify_trace root key at input _ _ (VerifiedTrace fits told is) (LongTrace long) =
+only_verify root question input _ _ (Verified fits told is) (LongProof long) =
     absurd (omega (arith, long, fits))
-only_verify_trace root key at input _ _ (VerifiedTrace _ told is) (VerifiedTrace _ other i) =
-    ap (λ (t : TraceVerification). output_of (trace_verification_outcome t) [])
-    (one_told root key at input told other is i)
-
-only_verify_range : (root key : List ℕ) (from to : ℕ) (input : List ℕ) (a b : Output)
-    → IsVerifyRangeOutput root key from to input a → IsVerifyRangeOutput root key from to input b
-    → a ≡ b
-only_verify_range root key from to input _ _ (LongRange _) (LongRange _) = refl
-only_verify_range root key from to input _ _ (LongRange long) (VerifiedRange fits told is) =
-    absurd (omega (arith, long, fits))
-only_verify_range root key from to input _ _ (VerifiedRange fits told is) (LongRange long) =
-    absurd (omega (arith, long, fits))
-only_verify_range root key from to input _ _ (VerifiedRange _ told is) (VerifiedRange _ other i) =
-    ap (λ (t : RangeVerification). output_of (range_verification_outcome t) [])
-    (one_range_told root key from to input told other is i)
+only_verify root question input _ _ (Verified _ told is) (Verified _ other i) =
+    ap (λ (v : Verification). output_of (verification_outcome v) [])
+    (one_verification root question input told other is i)
 
 -- by any right decoder and compiler, the output of a command over the log is the same
 same_over : (read : Decoder) (compile : Compiler) → IsDecoder read → compile ≡ compiled_in
@@ -359,32 +291,15 @@ same_output read compile is_read compile_is (Some Upgrade) input content fits wh
 same_output read compile is_read compile_is (Some (Root at)) input content fits whole other is =
     same_asked read compile is_read compile_is (λ c blocks. root_output c at input blocks) input
     content whole other is
-same_output read compile is_read compile_is (Some (Ask kind key at)) input content fits whole other
-    is = same_asked read compile is_read compile_is
-    (λ c blocks. ask_output c kind key at input blocks) input content whole other is
-same_output read compile is_read compile_is (Some (Prove query root_at)) input content fits whole
+same_output read compile is_read compile_is (Some (Ask question)) input content fits whole other is =
+    same_asked read compile is_read compile_is (λ c blocks. ask_output c question input blocks)
+    input content whole other is
+same_output read compile is_read compile_is (Some (Prove question root_at)) input content fits whole
     other is = same_asked read compile is_read compile_is
-    (λ c blocks. prove_output c query root_at input blocks) input content whole other is
-same_output read compile is_read compile_is (Some (Verify root query)) input content fits whole other is = only_verify root.0 query input other (some_verify root.0 query input).0 is (some_verify root.0 query input).1
-same_output read compile is_read compile_is (Some (Trace key at)) input content fits whole other
-    is = same_asked read compile is_read compile_is
-    (λ c blocks. trace_output c key at input blocks) input content whole other is
-same_output read compile is_read compile_is (Some (ProveTrace key at root_at)) input content fits
-    whole other is = same_asked read compile is_read compile_is
-    (λ c blocks. prove_trace_output c key at root_at input blocks) input content whole other is
-same_output read compile is_read compile_is (Some (VerifyTrace root key at)) input content fits
-    whole other is = only_verify_trace root.0 key at input other
-    (some_verify_trace root.0 key at input).0 is (some_verify_trace root.0 key at input).1
-same_output read compile is_read compile_is (Some (Range key from to)) input content fits whole
-    other is = same_asked read compile is_read compile_is
-    (λ c blocks. range_output c key from to input blocks) input content whole other is
-same_output read compile is_read compile_is (Some (ProveRange key from to root_at)) input content
-    fits whole other is = same_asked read compile is_read compile_is
-    (λ c blocks. prove_range_output c key from to root_at input blocks) input content whole other is
-same_output read compile is_read compile_is (Some (VerifyRange root key from to)) input content fits
-    whole other is = only_verify_range root.0 key from to input other
-    (some_verify_range root.0 key from to input).0 is
-    (some_verify_range root.0 key from to input).1
+    (λ c blocks. prove_output c question root_at input blocks) input content whole other is
+same_output read compile is_read compile_is (Some (Verify root question)) input content fits whole
+    other is = only_verify root.0 question input other (some_verify root.0 question input).0 is
+    (some_verify root.0 question input).1
 same_output read compile is_read compile_is (Some MakeLight) input content fits whole other is =
     same_asked read compile is_read compile_is (λ c blocks. make_light_output c input blocks) input
     content whole other is

@@ -24,9 +24,8 @@ use Rattle.cli_words.specs.declared.words.BlockVersion.{BlockVersion}
 use Rattle.cli_words.specs.declared.words.Edition.{Edition}
 use Rattle.cli_words.specs.declared.words.Command.TheVariants.{Scan, Fmt, Pack, Gen, Load, Append}
 use Rattle.cli_words.specs.declared.words.Command.TheVariants.{Follow, Upgrade, Root, Ask, Prove}
-use Rattle.cli_words.specs.declared.words.Command.TheVariants.{Verify, Expose, Trace, ProveTrace}
-use Rattle.cli_words.specs.declared.words.Command.TheVariants.{VerifyTrace, Range, ProveRange}
-use Rattle.cli_words.specs.declared.words.Command.TheVariants.{VerifyRange, MakeLight, Light}
+use Rattle.cli_words.specs.declared.words.Command.TheVariants.{Verify, Expose, MakeLight, Light}
+use Rattle.cli_words.specs.declared.question.Question.{Question}
 use Rattle.cli_lines.specs.Lines.{usage_line}
 use Rattle.cli_lines.specs.Outcome.{outcome_with}
 use Rattle.cli_lines.specs.declared.outcome.Outcome.{Outcome}
@@ -35,14 +34,11 @@ use Rattle.cli_lines.specs.declared.outcome.Ending.TheVariants as endings
 use Rattle.cli_lines.specs.declared.status.Status.{Status}
 use Rattle.cli_output.specs.Blocks.{frame}
 use Rattle.cli_output.specs.Output.{Output, output_of, usage_output, scan_output, pack_output}
-use Rattle.cli_output.specs.Output.{gen_output, load_outcome, on_log, answer_outcome, root_outcome}
-use Rattle.cli_output.specs.Output.{prove_outcome, at_or_last, trace_outcome, prove_trace_outcome}
-use Rattle.cli_output.specs.Output.{range_outcome, make_light_outcome, prove_range_outcome}
-use Rattle.cli_output.specs.Output.{IsVerifyTraceOutput, LongTrace, VerifiedTrace}
-use Rattle.cli_output.specs.Output.{IsVerifyRangeOutput, LongRange, VerifiedRange, edition_number}
-use Rattle.cli_output.specs.Output.{version_number, IsFmtOutput, Long, Source, IsVerifyOutput}
+use Rattle.cli_output.specs.Output.{gen_output, load_outcome, on_log, ask_outcome, root_outcome}
+use Rattle.cli_output.specs.Output.{prove_outcome, question_in, at_or_last, make_light_outcome}
+use Rattle.cli_output.specs.Output.{edition_number, version_number, IsFmtOutput, Long, Source}
+use Rattle.cli_output.specs.Output.{IsVerifyOutput}
 use Rattle.cli_output.specs.Output.{LongProof, Verified, IsExposeOutput, Wants}
-use Rattle.cli_output.specs.Scanning.{IsVerifyTraceOutcome, IsVerifyRangeOutcome}
 use Rattle.cli_output.specs.Uses.{changes_log, uses_disk}
 use Rattle.cli_output.specs.Running.{leaves, Meets, IsGiven, IsRun}
 use Rattle.cli_output.specs.Scanning.{GivesAny, GivesFrom, GivesOutput, IsFmtOutcome}
@@ -63,20 +59,10 @@ fmt_no_change : (edition : ℕ) (input : List ℕ) (output : Output) → IsFmtOu
 fmt_no_change edition input _ (Long long) = refl
 fmt_no_change edition input _ (Source fits outcome is) = refl
 
-verify_no_change : (root : List ℕ) (query : Query) (input : List ℕ) (output : Output)
-    → IsVerifyOutput root query input output → output.change ≡ NoChange
-verify_no_change root query input _ (LongProof long) = refl
-verify_no_change root query input _ (Verified fits told is) = refl
-
-verify_trace_no_change : (root key : List ℕ) (at : ℕ) (input : List ℕ) (output : Output)
-    → IsVerifyTraceOutput root key at input output → output.change ≡ NoChange
-verify_trace_no_change root key at input _ (LongTrace long) = refl
-verify_trace_no_change root key at input _ (VerifiedTrace fits told is) = refl
-
-verify_range_no_change : (root key : List ℕ) (from to : ℕ) (input : List ℕ) (output : Output)
-    → IsVerifyRangeOutput root key from to input output → output.change ≡ NoChange
-verify_range_no_change root key from to input _ (LongRange long) = refl
-verify_range_no_change root key from to input _ (VerifiedRange fits told is) = refl
+verify_no_change : (root : List ℕ) (question : Question) (input : List ℕ) (output : Output)
+    → IsVerifyOutput root question input output → output.change ≡ NoChange
+verify_no_change root question input _ (LongProof long) = refl
+verify_no_change root question input _ (Verified fits told is) = refl
 
 -- a question over the blocks of the log has no output that changes it
 asked_no_change : (wanted : List Block → Outcome) (input content : List ℕ) (output : Output)
@@ -109,25 +95,12 @@ no_change (Some Follow) input content output quiet is = absurd (cc quiet)
 no_change (Some Upgrade) input content output quiet is = absurd (cc quiet)
 no_change (Some (Root at)) input content output quiet is = asked_no_change
     (λ blocks. root_outcome compiled_in (at_or_last at blocks) blocks) input content output is
-no_change (Some (Ask kind key at)) input content output quiet is = asked_no_change
-    (λ blocks. answer_outcome compiled_in
-    (record { kind = kind; key = key; at = at_or_last at blocks }) blocks) input content output is
-no_change (Some (Prove query root_at)) input content output quiet is =
-    asked_no_change (prove_outcome compiled_in query root_at) input content output is
-no_change (Some (Verify root query)) input content output quiet is = verify_no_change root.0 query
-    input output is
-no_change (Some (Trace key at)) input content output quiet is =
-    asked_no_change (trace_outcome compiled_in key at) input content output is
-no_change (Some (ProveTrace key at root_at)) input content output quiet is =
-    asked_no_change (prove_trace_outcome compiled_in key at root_at) input content output is
-no_change (Some (VerifyTrace root key at)) input content output quiet is =
-    verify_trace_no_change root.0 key at input output is
-no_change (Some (Range key from to)) input content output quiet is =
-    asked_no_change (range_outcome compiled_in key from to) input content output is
-no_change (Some (ProveRange key from to root_at)) input content output quiet is =
-    asked_no_change (prove_range_outcome compiled_in key from to root_at) input content output is
-no_change (Some (VerifyRange root key from to)) input content output quiet is =
-    verify_range_no_change root.0 key from to input output is
+no_change (Some (Ask asked)) input content output quiet is = asked_no_change
+    (λ blocks. ask_outcome compiled_in (question_in asked blocks) blocks) input content output is
+no_change (Some (Prove question root_at)) input content output quiet is =
+    asked_no_change (prove_outcome compiled_in question root_at) input content output is
+no_change (Some (Verify root question)) input content output quiet is =
+    verify_no_change root.0 question input output is
 no_change (Some MakeLight) input content output quiet is =
     asked_no_change (make_light_outcome compiled_in) input content output is
 no_change (Some Light) input content output quiet is = ap (λ (o : Output). o.change) is
@@ -179,26 +152,11 @@ module _ (state : Option DiskState) (found : Result Outcome OutcomeStop)
   fmt_found edition is heard input content given_input given =
       read_found (IsFmtOutput (edition_number edition)) found left_old left_new is input given_input
 
-  pub verify_found : (root : Digest) (query : Query) → IfSome left_old (λ input. IfOk found
-      (λ outcome. IsVerifyOutcome root.0 query outcome left_new input))
-      → IsFoundFor state left_old left_new held (Some (Verify root query)) found
-  verify_found root query is heard input content given_input given =
-      read_found (IsVerifyOutput root.0 query) found left_old left_new is input given_input
-
-  pub verify_trace_found : (root : Digest) (key : List ℕ) (at : ℕ)
-      → IfSome left_old (λ input. IfOk found
-      (λ outcome. IsVerifyTraceOutcome root.0 key at outcome left_new input))
-      → IsFoundFor state left_old left_new held (Some (VerifyTrace root key at)) found
-  verify_trace_found root key at is heard input content given_input given =
-      read_found (IsVerifyTraceOutput root.0 key at) found left_old left_new is input given_input
-
-  pub verify_range_found : (root : Digest) (key : List ℕ) (from to : ℕ)
-      → IfSome left_old (λ input. IfOk found
-      (λ outcome. IsVerifyRangeOutcome root.0 key from to outcome left_new input))
-      → IsFoundFor state left_old left_new held (Some (VerifyRange root key from to)) found
-  verify_range_found root key from to is heard input content given_input given =
-      read_found (IsVerifyRangeOutput root.0 key from to) found left_old left_new is input
-      given_input
+  pub verify_found : (root : Digest) (question : Question) → IfSome left_old (λ input. IfOk found
+      (λ outcome. IsVerifyOutcome root.0 question outcome left_new input))
+      → IsFoundFor state left_old left_new held (Some (Verify root question)) found
+  verify_found root question is heard input content given_input given =
+      read_found (IsVerifyOutput root.0 question) found left_old left_new is input given_input
 
   pub of_found : (command given : Command) → command ≡ given
       → IsFoundFor state left_old left_new held (Some given) found

@@ -21,15 +21,17 @@ ghost use Rattle.lc_io.specs.Scratch.{is_known};
 ghost use Rattle.cli_append.specs.recovery.Restoring.{ReadsLog};
 ghost use Rattle.cli_proofs.specs.Exposing.{ledger_kept};
 ghost use Rattle.merkle_dag.specs.Lineage.{AgreesWith, ledger_in};
-ghost use Rattle.cli_words.specs.Words.{CanBeGiven};
+ghost use Rattle.chain_exec.specs.Compiled.{compiled_in};
+ghost use Rattle.cli_words.specs.{
+  Words.{CanBeGiven},
+  declared.words.Command.TheVariants.{Ask},
+};
 ghost use Rattle.cli_output.specs.{
-  Output.{output_of},
+  Output.{ask_outcome, question_in},
   Running.{MayEnd, found_no_log},
-  Scanning.{EndsAsked, IsFoundFor, IsFoundOver, WantsOver},
+  Scanning.{EndsAsked, IsFoundFor, IsFoundOver},
   Telling.{status_of_found},
   Uses.{
-    LogRows,
-    use_of,
     asks_lineage,
     changes_log,
     reads_input,
@@ -39,48 +41,32 @@ ghost use Rattle.cli_output.specs.{
   },
 };
 
-use crate::asking::{range_outcome, trace_outcome};
+use crate::asking::asked_outcome;
 use crate::fmt::fmt;
 use crate::loading::load_outcome;
-use crate::over_log::{ask_outcome, root_outcome};
+use crate::over_log::root_outcome;
 use crate::packing::pack;
 use crate::scan::scan;
 use chain_replay::{Chain, Replay};
 use cli_append::{Node, stored_chain};
 use cli_lines::Outcome;
 use cli_output::{OutcomeStop, start_outcome};
-use cli_proofs::{expose, prove, prove_range, prove_trace, verify, verify_range, verify_trace};
-use cli_words::Command;
+use cli_proofs::{expose, prove, verify};
+use cli_words::{Asked, Command};
 use disk_model::Disk;
 use lc_base::{Memory, Resources};
 use lc_io::{Scratch, Source};
 use merkle_dag::Lineage;
 use std::alloc::Global;
 
-/// What is found over the rows of a chain.
-fn rows_outcome(alloc: Global, command: &Command, chain: &mut Chain) -> Result<Outcome, Memory>
-    requires asks { (use_of (Some command.now)).chain ≡ LogRows }
-    ensures outcome { IfOk result (λ outcome. (blocks : List Blocks) → StandsFor chain.old blocks
-        → (input : List ℕ) → WantsOver command.now input blocks (output_of outcome input)) }
-    ensures ends { IfOk result (λ outcome. EndsAsked outcome.ending) }
-{
-    match command {
-        Command::Ask { kind, key, at } => ask_outcome(alloc, *kind, *key, *at, chain),
-        Command::Trace { key, at } => trace_outcome(alloc, key, *at, chain),
-        Command::Range { key, from, to } => range_outcome(alloc, key, *from, *to, chain),
-        _ => unreachable!(),
-    }
-}
-
-/// The same, for a chain that is discarded.
-fn stored_outcome(alloc: Global, command: &Command, chain: Chain) -> Result<Outcome, Memory>
-    requires asks { (use_of (Some command.now)).chain ≡ LogRows }
+/// What is found over the rows of a chain, which is discarded.
+fn stored_outcome(alloc: Global, asked: &Asked, chain: Chain) -> Result<Outcome, Memory>
     ensures outcome { IfOk result (λ outcome. (blocks : List Blocks) → StandsFor chain blocks
-        → (input : List ℕ) → WantsOver command.now input blocks (output_of outcome input)) }
+        → outcome ≡ ask_outcome compiled_in (question_in asked.now blocks) blocks) }
     ensures ends { IfOk result (λ outcome. EndsAsked outcome.ending) }
 {
     let mut chain = chain;
-    let outcome = rows_outcome(alloc, command, &mut chain);
+    let outcome = asked_outcome(alloc, asked, &mut chain);
     chain.give_up();
     outcome
 }
@@ -88,22 +74,21 @@ fn stored_outcome(alloc: Global, command: &Command, chain: Chain) -> Result<Outc
 /// What is found over the rows of the log's blocks.
 fn ask_rows<M: Disk>(
     resources: Resources,
-    command: &Command,
+    asked: &Asked,
     machine: &mut M,
 ) -> Result<Outcome, OutcomeStop>
     requires settled { IsSettled (M.disk machine.old (M.now machine.old)) }
-    requires asks { (use_of (Some command.now)).chain ≡ LogRows }
     ensures found { (left : Option (List ℕ)) (held : Bool)
-        → IsFoundFor (M.disk machine.old (M.now machine.old)) left left held (Some command.now)
-        result }
-    ensures ends { MayEnd (status_of_found result) (Some command.now) }
+        → IsFoundFor (M.disk machine.old (M.now machine.old)) left left held
+        (Some (Ask asked.now)) result }
+    ensures ends { MayEnd (status_of_found result) (Some (Ask asked.now)) }
     ensures reads { IsErrOf result OutcomeStop.Unreadable → ⊥ }
     ensures keeps { IsErrOf result OutcomeStop.ScratchFault → ⊥ }
     ensures machine { ReadsLog M.now M.disk M.disk_faults M.told M.wire_faults machine.old machine.new (IsErrOf result OutcomeStop.DiskFault) }
 {
     let alloc = resources.alloc;
     match stored_chain(resources, machine) {
-        Ok(chain) => Ok(stored_outcome(alloc, command, chain)?),
+        Ok(chain) => Ok(stored_outcome(alloc, asked, chain)?),
         Err(error) => start_outcome(alloc, error),
     }
 }
@@ -132,21 +117,12 @@ fn lineage_outcome<I: Source, S: Scratch>(
 {
     match command {
         Command::Root(at) => Ok(root_outcome(alloc, *at, lineage)?),
-        Command::Prove { query, root_at } => prove(alloc, query, *root_at, lineage, scratch),
+        Command::Prove { question, root_at } => prove(alloc, question, *root_at, lineage, scratch),
         Command::Expose {
             root,
             query,
             root_at,
         } => expose(alloc, root, query, *root_at, lineage, source, scratch),
-        Command::ProveTrace { key, at, root_at } => {
-            prove_trace(alloc, key, *at, *root_at, lineage, scratch)
-        }
-        Command::ProveRange {
-            key,
-            from,
-            to,
-            root_at,
-        } => prove_range(alloc, key, *from, *to, *root_at, lineage, scratch),
         _ => unreachable!(),
     }
 }
@@ -211,22 +187,11 @@ pub fn find<I: Source, M: Disk, S: Scratch>(
         Command::Fmt(edition) => fmt(alloc, *edition, source),
         Command::Pack(version) => pack(alloc, *version, source),
         Command::Load(generation) => load_outcome(resources, scratch, generation),
-        Command::Ask { .. } | Command::Trace { .. } | Command::Range { .. } => {
-            ask_rows(resources, command, machine)
+        Command::Ask(asked) => ask_rows(resources, asked, machine),
+        Command::Verify { root, question } => verify(alloc, root, question, source),
+        Command::Root(_) | Command::Prove { .. } | Command::Expose { .. } => {
+            ask_lineage(resources, command, source, machine, scratch)
         }
-        Command::Verify { root, query } => verify(alloc, root, query, source),
-        Command::VerifyTrace { root, key, at } => verify_trace(alloc, root, key, *at, source),
-        Command::VerifyRange {
-            root,
-            key,
-            from,
-            to,
-        } => verify_range(alloc, root, key, *from, *to, source),
-        Command::Root(_)
-        | Command::Prove { .. }
-        | Command::Expose { .. }
-        | Command::ProveTrace { .. }
-        | Command::ProveRange { .. } => ask_lineage(resources, command, source, machine, scratch),
         Command::Gen(_)
         | Command::Append
         | Command::Follow

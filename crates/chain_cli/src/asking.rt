@@ -1,20 +1,22 @@
-//! Questions over the rows of a chain: what is printed for each, if the chain has the block that it
-//! names.
+//! Questions over the rows of a chain: what is printed for each, if the chain has the blocks that it
+//! is about.
 
 ghost use Rattle.std.specs.Prelude.{◌≡◌, List, IfOk, IfSome};
 ghost use Rattle.block_codec.specs.declared.block.Block.{Block as Blocks};
 ghost use Rattle.chain_exec.specs.Compiled.{compiled_in};
 ghost use Rattle.chain_replay.specs.Chain.{StandsFor};
 ghost use Rattle.cli_output.specs.{
-  Output.{answer_outcome, trace_outcome, range_outcome},
+  Output.{ask_outcome, question_in},
+  Questions.{last_block, shown_in},
   Scanning.{EndsAsked},
 };
 ghost use Rattle.chain_cli.specs.Asking.{missing_outcome};
 
 use chain_replay::Chain;
-use cli_lines::{Ending, Outcome, answer_lines};
-use cli_output::{beyond, range_lines, trace_lines};
-use lc_base::{Key, Memory, Query};
+use cli_lines::{Ending, Outcome};
+use cli_output::{Shown, beyond, shown_lines};
+use cli_words::{Asked, Question};
+use lc_base::{Memory, Query};
 use std::alloc::Global;
 
 /// The outcome for a block that a chain of `count` blocks doesn't have; `None` if it has the block.
@@ -31,63 +33,68 @@ fn missing(alloc: Global, at: u32, count: u32) -> Result<Option<Outcome>, Memory
     Ok(None)
 }
 
-/// The answer over the rows of a chain, if the chain has the block up to which it is asked for.
-pub fn answer_outcome(alloc: Global, query: &Query, chain: &mut Chain) -> Result<Outcome, Memory>
+/// The last block that a question is about.
+fn last_block(question: &Question) -> u32
+    ensures { result ≡ last_block question.now }
+{
+    match question {
+        Question::Version(query) => query.at,
+        Question::Ancestors { at, .. } => *at,
+        Question::Between { to, .. } => *to,
+    }
+}
+
+/// What is shown for a question over the rows of a chain.
+fn shown_in(alloc: Global, question: &Question, chain: &mut Chain) -> Result<Shown, Memory>
+    ensures { IfOk result (λ shown. shown ≡ shown_in chain.old.rows question.now) }
+{
+    match question {
+        Question::Version(query) => Ok(Shown::Answer(chain.ask(query)?)),
+        Question::Ancestors { key, at } => Ok(Shown::Ancestors(chain.trace(alloc, key, *at)?)),
+        Question::Between { key, from, to } => {
+            Ok(Shown::Versions(chain.range(alloc, key, *from, *to)?))
+        }
+    }
+}
+
+/// What is shown for a question over the rows of a chain, if the chain has the last block that it is
+/// about.
+pub fn ask_outcome(alloc: Global, question: &Question, chain: &mut Chain) -> Result<Outcome, Memory>
     ensures outcome { IfOk result (λ outcome. (blocks : List Blocks) → StandsFor chain.old blocks
-        → outcome ≡ answer_outcome compiled_in query.now blocks) }
+        → outcome ≡ ask_outcome compiled_in question.now blocks) }
     ensures ends { IfOk result (λ outcome. EndsAsked outcome.ending) }
 {
-    if let Some(outcome) = missing(alloc, query.at, chain.len())? {
+    if let Some(outcome) = missing(alloc, last_block(question), chain.len())? {
         return Ok(outcome);
     }
-    let answer = chain.ask(query)?;
+    let shown = shown_in(alloc, question, chain)?;
     Ok(Outcome {
-        pieces: answer_lines(alloc, &answer)?,
+        pieces: shown_lines(alloc, &shown)?,
         ending: Ending::Done,
     })
 }
 
-/// The last version of a key up to a block over the rows of a chain, with its ancestors, if the
-/// chain has the block.
-pub fn trace_outcome(
-    alloc: Global,
-    key: &Key,
-    at: u32,
-    chain: &mut Chain,
-) -> Result<Outcome, Memory>
-    ensures outcome { IfOk result (λ outcome. (blocks : List Blocks) → StandsFor chain.old blocks
-        → outcome ≡ trace_outcome compiled_in key.now at blocks) }
-    ensures ends { IfOk result (λ outcome. EndsAsked outcome.ending) }
+/// The question that is asked over the blocks of a chain: one that names none is about the last one.
+fn question_in(asked: &Asked, chain: &Chain) -> Question
+    ensures { (blocks : List Blocks) → StandsFor chain.now blocks
+        → result ≡ question_in asked.now blocks }
 {
-    if let Some(outcome) = missing(alloc, at, chain.len())? {
-        return Ok(outcome);
+    match asked {
+        Asked::At(question) => *question,
+        Asked::AtLast { kind, key } => Question::Version(Query {
+            kind: *kind,
+            key: *key,
+            at: chain.len().saturating_sub(1),
+        }),
     }
-    let trace = chain.trace(alloc, key, at)?;
-    Ok(Outcome {
-        pieces: trace_lines(alloc, &trace)?,
-        ending: Ending::Done,
-    })
 }
 
-/// All versions of a key in blocks from `from` to `to` over the rows of a chain, if the chain has
-/// the last block.
-pub fn range_outcome(
-    alloc: Global,
-    key: &Key,
-    from: u32,
-    to: u32,
-    chain: &mut Chain,
-) -> Result<Outcome, Memory>
+/// The same for what is asked of the log.
+pub fn asked_outcome(alloc: Global, asked: &Asked, chain: &mut Chain) -> Result<Outcome, Memory>
     ensures outcome { IfOk result (λ outcome. (blocks : List Blocks) → StandsFor chain.old blocks
-        → outcome ≡ range_outcome compiled_in key.now from to blocks) }
+        → outcome ≡ ask_outcome compiled_in (question_in asked.now blocks) blocks) }
     ensures ends { IfOk result (λ outcome. EndsAsked outcome.ending) }
 {
-    if let Some(outcome) = missing(alloc, to, chain.len())? {
-        return Ok(outcome);
-    }
-    let versions = chain.range(alloc, key, from, to)?;
-    Ok(Outcome {
-        pieces: range_lines(alloc, versions.as_slice())?,
-        ending: Ending::Done,
-    })
+    let question = question_in(asked, chain);
+    ask_outcome(alloc, &question, chain)
 }

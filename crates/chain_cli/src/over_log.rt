@@ -1,5 +1,4 @@
-//! The commands over the log: `append` and `follow`, and what is found for `root` and for the
-//! questions `hist`, `back` and `fwd`.
+//! The commands over the log: `append` and `follow`, and what is found for `root`.
 
 ghost use Rattle.std.specs.Prelude.{
   ◌≡◌,
@@ -27,21 +26,19 @@ ghost use Rattle.cli_proofs.specs.Exposing.{ledger_kept};
 ghost use Rattle.merkle_dag.specs.{Ledger.{IsHead}, Lineage.{ledger_in}};
 ghost use Rattle.root_laws.specs.Root.{root_of};
 ghost use Rattle.cli_output.specs.{
-  Output.{answer_outcome, root_outcome, at_or_last},
+  Output.{root_outcome, at_or_last},
   Running.{HeldIsGiven, IsRun, MayEnd, MayLeaveBy, found_no_log},
   Scanning.{EndsAsked},
   Telling.{run_answer, status_of_result},
   Uses.{appends_log},
 };
 
-use crate::asking::answer_outcome;
-use chain_replay::Chain;
 use cli_append::{RunEnd, RunStop, append, follow, start};
 use cli_lines::{Ending, Outcome, root_line};
 use cli_output::{beyond, start_outcome, tell};
 use cli_words::Command;
 use disk_model::Disk;
-use lc_base::{Digest, Key, Kind, Memory, Query, Resources};
+use lc_base::{Digest, Memory, Resources};
 use lc_io::{Scratch, Source, Wire};
 use merkle_dag::Lineage;
 use std::alloc::Global;
@@ -101,24 +98,6 @@ pub fn extend_log<I: Source, M: Disk + Wire, S: Scratch>(
         },
         Err(error) => tell(machine, start_outcome(alloc, error)),
     }
-}
-
-/// The answer over the rows of the chain, if the chain has the block up to which it is asked for:
-/// `at`, or else the last one.
-pub fn ask_outcome(
-    alloc: Global,
-    kind: Kind,
-    key: Key,
-    at: Option<u32>,
-    chain: &mut Chain,
-) -> Result<Outcome, Memory>
-    ensures outcome { IfOk result (λ outcome. (blocks : List Blocks) → StandsFor chain.old blocks
-        → outcome ≡ answer_outcome compiled_in
-        (record { kind = kind; key = key; at = at_or_last at blocks }) blocks) }
-    ensures ends { IfOk result (λ outcome. EndsAsked outcome.ending) }
-{
-    let at = at.unwrap_or(chain.len().saturating_sub(1));
-    answer_outcome(alloc, &Query { kind, key, at }, chain)
 }
 
 /// The root at a block of a lineage, by the number of its last block; `None` exactly if the block

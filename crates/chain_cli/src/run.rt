@@ -22,6 +22,7 @@ ghost use Rattle.block_log.specs.Log.{next_in_log};
 ghost use Rattle.chain_exec.specs.Compiled.{Compiler, IsCompiler, compiled_in};
 ghost use Rattle.cli_words.specs.{
   declared.words.Command.{Command as Commands},
+  declared.question.Question.{Question},
   Words.{CanBeGiven, IsCommand, IsOneCommand},
 };
 ghost use Rattle.cli_append.specs.recovery.Node.{next_in_chain};
@@ -29,10 +30,8 @@ ghost use Rattle.cli_output.specs.{
   Output.{FormatsAgain, IsWanted, IsOneOutput, log_next_by, next_by},
   Running.{HeldIsGiven, IsRun, IsSilent, MayEnd, MayLeaveBy, found_no_log},
   Showing.{
-    VerifiedAnswersHold,
-    VerifiedTracesHold,
+    ProvedAnswersHold,
     AncestorsAreTheReached,
-    VerifiedRangesHold,
     WrongAnswersAreTold,
     LightAnswersHold,
     MadeLightFilesAreWhole,
@@ -167,7 +166,7 @@ fn run_words<I: Source, M: Disk + Wire, S: Scratch>(
 
 /// Everything that the program does: it reads the words, the input and the disk, keeps bodies of
 /// versions on the scratch device, prints the lines, and appends to the log or marks it.
-#[tactic(auto, using(crate::proofs::OneOutput::one_output, crate::proofs::Formatted::formats_again, crate::proofs::Held::verified_holds, crate::proofs::HeldTraces::verified_traces_hold, crate::proofs::HeldRanges::verified_ranges_hold, crate::proofs::HeldLights::light_answers_hold, cli_output::proofs::WrongTold::wrong_answers_are_told, block_codec::proofs::WholeBlocks::decided, crate::proofs::OneOutput::compiled_by))]
+#[tactic(auto, using(crate::proofs::OneOutput::one_output, crate::proofs::Formatted::formats_again, crate::proofs::Held::proved_answers_hold, crate::proofs::HeldLights::light_answers_hold, cli_output::proofs::WrongTold::wrong_answers_are_told, block_codec::proofs::WholeBlocks::decided, crate::proofs::OneOutput::compiled_by))]
 pub fn run<I: Source, M: Disk + Wire, S: Scratch>(
     resources: Resources,
     words: &[String],
@@ -193,23 +192,16 @@ pub fn run<I: Source, M: Disk + Wire, S: Scratch>(
         → IsOneOutput (IsWanted command input content) }
     // The canonical text that `fmt` prints in an edition, it prints again for that text.
     ensures formats_again { (edition : ℕ) (input : List ℕ) → FormatsAgain edition input }
-    // The answer that `verify` prints is that of replaying any chain with the root, up to the block
-    // at which the chain has it; or a text of the proof and one of that chain's ledger differ and
-    // have one digest.
-    ensures verified { (root : List ℕ) (query : Query) (input : List ℕ)
-        → VerifiedAnswersHold root query input }
+    // What `verify` prints is what replaying any chain with the root shows, up to the block at which
+    // the chain has it: the answer about a version (`verify`), a version with all its ancestors
+    // (`trace verify`), or all versions of a key between two blocks (`range verify`); or a text of
+    // the proof and one of that chain's ledger differ and have one digest.
+    ensures proved { (root : List ℕ) (question : Question) (input : List ℕ)
+        → ProvedAnswersHold root question input }
     // For a proof that is accepted with another answer than that of a chain with the root, `expose`
     // prints a text of the proof and one of that chain's ledger that differ and have one digest.
     ensures exposed { (root : List ℕ) (query : Query) (root_at : ℕ) (input : List ℕ)
         → WrongAnswersAreTold root query root_at input }
-    // The ancestors that `trace verify` prints are those of replaying any chain with the root, up to
-    // the block at which the chain has it; or a text of the proof and one of that chain's ledger
-    // differ and have one digest.
-    ensures traced { (root key : List ℕ) (at : ℕ) (input : List ℕ)
-        → VerifiedTracesHold root key at input }
-    // So are the versions between two blocks that `range verify` prints.
-    ensures ranged { (root key : List ℕ) (from to : ℕ) (input : List ℕ)
-        → VerifiedRangesHold root key from to input }
     // The ancestors of a version are those versions that are reached from it by one or more
     // dependencies, each once, in the order of their blocks and keys.
     ensures ancestors { AncestorsAreTheReached }

@@ -5,9 +5,12 @@ ghost use Rattle.std.specs.Prelude.{◌≡◌, [], ◌∷◌, IfOk, IfSome, List
 ghost use Rattle.block_codec.specs.{Reading.{block_in}, declared.block.Block.{Block as Blocks}};
 ghost use Rattle.chain_replay.specs.Chain.{StandsFor, placement_in};
 ghost use Rattle.cli_lines.specs.{Outcome.{status_of, outcome_with}, Lines.{refused_line}};
-ghost use Rattle.cli_words.specs.declared.words.Command.TheVariants.{Scan};
+ghost use Rattle.cli_words.specs.declared.{
+  words.Command.TheVariants.{Scan},
+  question.Question.TheVariants.{Version},
+};
 ghost use Rattle.cli_output.specs.{
-  Output.{answer_outcome, scan_output},
+  Output.{ask_outcome, scan_output},
   Running.{MayEnd},
   Scanning.{GivesOutput, EndsAsked},
   Telling.{OnlyReads},
@@ -15,11 +18,12 @@ ghost use Rattle.cli_output.specs.{
 ghost use Rattle.chain_exec.specs.Compiled.{compiled_in};
 ghost use Rattle.chain_input.specs.Folding.{fold_input};
 
-use crate::asking::answer_outcome;
+use crate::asking::ask_outcome;
 use chain_input::{Cause, Folded, fold};
 use chain_replay::{Chain, Replay};
 use cli_lines::{Ending, Outcome, refused_line};
 use cli_output::OutcomeStop;
+use cli_words::Question;
 use lc_base::{Memory, Query, Resources};
 use lc_io::Source;
 use std::alloc::Global;
@@ -33,11 +37,11 @@ fn refusal_outcome(alloc: Global, frame: u32, cause: &Cause) -> Result<Outcome, 
 
 /// The answer over the rows of a chain, which is discarded.
 fn whole_outcome(alloc: Global, query: &Query, chain: Chain) -> Result<Outcome, Memory>
-    ensures outcome { IfOk result (λ outcome. (blocks : List Blocks) → StandsFor chain blocks → outcome ≡ answer_outcome compiled_in query.now blocks) }
+    ensures outcome { IfOk result (λ outcome. (blocks : List Blocks) → StandsFor chain blocks → outcome ≡ ask_outcome compiled_in (Version query.now) blocks) }
     ensures ends { IfOk result (λ outcome. EndsAsked outcome.ending) }
 {
     let mut chain = chain;
-    let outcome = answer_outcome(alloc, query, &mut chain);
+    let outcome = ask_outcome(alloc, &Question::Version(*query), &mut chain);
     chain.give_up();
     outcome
 }

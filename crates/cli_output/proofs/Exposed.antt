@@ -13,15 +13,20 @@ use Rattle.proof_codec.proofs.Viewed.{is_read}
 use Rattle.proof_checks.specs.Checks.{verdict}
 use Rattle.proof_checks.specs.ProofTexts.{proof_texts}
 use Rattle.proof_checks.specs.declared.reject.Reject.{Reject}
-use Rattle.proof_checks.specs.declared.reject.Reject.TheVariants.{Malformed}
 use Rattle.replay_soundness.specs.text_clashes.FirstClash.{IsFirstClash}
 use Rattle.replay_soundness.proofs.text_clashes.OneFirst.{some_first_clash, one_first_clash}
-use Rattle.proof_commands.specs.Verifying.{hex_text, of_verdict, verification, IsVerification}
-use Rattle.proof_commands.specs.Verifying.{OddDigits, NoDigit, NoProof, Judged}
+use Rattle.proof_commands.specs.Verifying.{hex_text, malformed, of_kind, of_verdict, verdict_for}
+use Rattle.proof_commands.specs.Verifying.{verification, IsVerdict, IsVerification, OddDigits}
+use Rattle.proof_commands.specs.Verifying.{NoDigit, Decoded, NoProof, Judged}
+use Rattle.proof_commands.specs.declared.verification.Shown.{Shown}
+use Rattle.proof_commands.specs.declared.verification.Shown.TheVariants as shows
+use Rattle.proof_commands.specs.declared.verification.Refused.{Refused}
+use Rattle.proof_commands.specs.declared.verification.Refused.TheVariants as refusals
+use Rattle.cli_words.specs.declared.question.Question.TheVariants.{Version}
 use Rattle.proof_commands.specs.declared.verification.HexFault.TheVariants.{Odd, At}
 use Rattle.proof_commands.specs.declared.verification.Verification.{Verification}
-use Rattle.proof_commands.specs.declared.verification.Verification.TheVariants.{Rejected, BadHex}
-use Rattle.proof_commands.proofs.Verified.{is_verification, one_answer}
+use Rattle.proof_commands.specs.declared.verification.Verification.TheVariants.{BadHex}
+use Rattle.proof_commands.proofs.Verified.{is_verification, one_verification}
 use Rattle.cli_promises.specs.Promises.{NoChange}
 use Rattle.cli_promises.specs.cli_lines.declared.whole.TheConstants.{MAX_WHOLE_INPUT_BYTES}
 use Rattle.replay_soundness.specs.Soundness.{replayed_texts}
@@ -39,22 +44,33 @@ expose_no_change compile root query root_at input blocks _ (Exposed within fits 
 
 -- ---- what is accepted
 
-accepted_told : (v : Result Answer Reject) (told : Verification) → told ≡ of_verdict v
+abbrev told_of : Result Answer Reject → Verification
+told_of v = of_verdict (of_kind shows.Answer refusals.Version v)
+
+accepted_told : (v : Result Answer Reject) (told : Verification) → told ≡ told_of v
     → is_ok v ≡ true → is_accepted told ≡ true
 accepted_told (Ok answer) told is passes = ap is_accepted is
 accepted_told (Err reject) told is passes = absurd (cc passes)
 
-refused_told : (v : Result Answer Reject) (reject : Reject) → v ≡ Err reject → is_accepted
-    (of_verdict v) ≡ false
-refused_told v reject is = ap (λ (r : Result Answer Reject). is_accepted (of_verdict r)) is
+refused_told : (v : Result Answer Reject) (reject : Reject) → v ≡ Err reject
+    → is_accepted (told_of v) ≡ false
+refused_told v reject is = ap (λ (r : Result Answer Reject). is_accepted (told_of r)) is
 
 abbrev read : Proof → Result Proof ℕ
 read proof = Ok proof
 
 module _ (root : List ℕ) (query : Query) (input : List ℕ) where
-  not_both : (told : Verification) (proof : Proof) → IsVerification root query input told → is_accepted told ≡ false → IsAcceptedHex root query input proof → ⊥
+  judged : (proof : Proof) (accepted : IsAcceptedHex root query input proof)
+      → IsVerification root (Version query) input (told_of (verdict root query proof))
+  judged proof accepted = Decoded accepted.bytes accepted.decoded
+      (verdict_for root (Version query) proof) (Judged proof accepted.spelled)
+
+  not_both : (told : Verification) (proof : Proof) → IsVerification root (Version query) input told
+      → is_accepted told ≡ false → IsAcceptedHex root query input proof → ⊥
   not_both told proof is fails accepted =
-      let same : told ≡ of_verdict (verdict root query proof) = one_answer root query input told (of_verdict (verdict root query proof)) is (Judged accepted.bytes accepted.decoded proof accepted.spelled) in
+      let same : told ≡ told_of (verdict root query proof) =
+      one_verification root (Version query) input told (told_of (verdict root query proof)) is
+      (judged proof accepted) in
       let passes = accepted_told (verdict root query proof) told same accepted.accepted in
       cc (fails, passes)
 
@@ -71,7 +87,7 @@ module _ (root : List ℕ) (query : Query) (input : List ℕ) where
     abbrev Told : Type 0
     Told = (output : Output) × IsExposeOutput compile root query root_at input blocks output
 
-    refused : Reach blocks query root_at → length input ≤ MAX_WHOLE_INPUT_BYTES → (told : Verification) → IsVerification root query input told → is_accepted told ≡ false → Told
+    refused : Reach blocks query root_at → length input ≤ MAX_WHOLE_INPUT_BYTES → (told : Verification) → IsVerification root (Version query) input told → is_accepted told ≡ false → Told
     refused within fits told is fails = (output_of (verification_outcome told) [], NotAccepted within fits told is fails)
 
     by_verdict : Reach blocks query root_at → length input ≤ MAX_WHOLE_INPUT_BYTES → (bytes : List ℕ) → decode_of (hex_text input) ≡ Ok bytes → (proof : Proof) → Spells bytes proof → (v : Result Answer Reject) → verdict root query proof ≡ v → Told
@@ -80,13 +96,26 @@ module _ (root : List ℕ) (query : Query) (input : List ℕ) where
           output_of (clash_outcome (proof_texts proof) (replayed_texts compile blocks root_at) first.0) [],
           Exposed within fits proof (record { bytes = bytes; decoded = decoded; spelled = is; accepted = ap (λ (r : Result Answer Reject). is_ok r) passes }) first.0 first.1,
         )
-    by_verdict within fits bytes decoded proof is (Err reject) fails = refused within fits (of_verdict (verdict root query proof)) (Judged bytes decoded proof is) (refused_told (verdict root query proof) reject fails)
+    by_verdict within fits bytes decoded proof is (Err reject) fails =
+        refused within fits (told_of (verdict root query proof))
+        (Decoded bytes decoded (verdict_for root (Version query) proof) (Judged proof is))
+        (refused_told (verdict root query proof) reject fails)
 
-    by_told : Reach blocks query root_at → length input ≤ MAX_WHOLE_INPUT_BYTES → (told : Verification) → IsVerification root query input told → Told
+    by_found : Reach blocks query root_at → length input ≤ MAX_WHOLE_INPUT_BYTES → (bytes : List ℕ)
+        → decode_of (hex_text input) ≡ Ok bytes → (found : Result Shown Refused)
+        → IsVerdict root (Version query) bytes found → Told
+    by_found within fits bytes decoded _ (NoProof none at longest) =
+        refused within fits (of_verdict (Err (malformed (Version query) at)))
+        (Decoded bytes decoded (Err (malformed (Version query) at)) (NoProof none at longest)) refl
+    by_found within fits bytes decoded _ (Judged proof is) =
+        by_verdict within fits bytes decoded proof is (verdict root query proof) refl
+
+    by_told : Reach blocks query root_at → length input ≤ MAX_WHOLE_INPUT_BYTES
+        → (told : Verification) → IsVerification root (Version query) input told → Told
     by_told within fits _ (OddDigits odd) = refused within fits (BadHex Odd) (OddDigits odd) refl
     by_told within fits _ (NoDigit at is) = refused within fits (BadHex (At at)) (NoDigit at is) refl
-    by_told within fits _ (NoProof bytes decoded none at longest) = refused within fits (Rejected (Malformed at)) (NoProof bytes decoded none at longest) refl
-    by_told within fits _ (Judged bytes decoded proof is) = by_verdict within fits bytes decoded proof is (verdict root query proof) refl
+    by_told within fits _ (Decoded bytes decoded found is) =
+        by_found within fits bytes decoded found is
 
     pub some_expose : (output : Output) × IsExposeOutput compile root query root_at input blocks output
     some_expose =
@@ -96,7 +125,8 @@ module _ (root : List ℕ) (query : Query) (input : List ℕ) where
             | inl later ↦ (output_of (beyond_head blocks) input, OutOfReach (λ reach. omega (arith, later, reach.1)))
             | inr early ↦ elim (cases_lt MAX_WHOLE_INPUT_BYTES (length input)) [
               | inl long ↦ (long_output input, LongExposed (low, early) long)
-              | inr fits ↦ by_told (low, early) fits (verification root query input) (is_verification root query input)
+              | inr fits ↦ by_told (low, early) fits (verification root (Version query) input)
+                  (is_verification root (Version query) input)
             ]
           ]
         ]
@@ -121,7 +151,7 @@ module _ (root : List ℕ) (query : Query) (input : List ℕ) where
     one_expose _ _ (LongExposed _ long) (Exposed _ fits _ _ _ _) = absurd (omega (arith, long, fits))
     one_expose _ _ (NotAccepted within _ _ _ _) (OutOfReach past) = absurd (past within)
     one_expose _ _ (NotAccepted _ fits _ _ _) (LongExposed _ long) = absurd (omega (arith, long, fits))
-    one_expose _ _ (NotAccepted _ _ told is _) (NotAccepted _ _ other i _) = ap (λ (v : Verification). output_of (verification_outcome v) []) (one_answer root query input told other is i)
+    one_expose _ _ (NotAccepted _ _ told is _) (NotAccepted _ _ other i _) = ap (λ (v : Verification). output_of (verification_outcome v) []) (one_verification root (Version query) input told other is i)
     one_expose _ _ (NotAccepted _ _ told is fails) (Exposed _ _ proof accepted _ _) = absurd (not_both told proof is fails accepted)
     one_expose _ _ (Exposed within _ _ _ _ _) (OutOfReach past) = absurd (past within)
     one_expose _ _ (Exposed _ fits _ _ _ _) (LongExposed _ long) = absurd (omega (arith, long, fits))

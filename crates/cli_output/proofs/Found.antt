@@ -15,12 +15,9 @@ use Rattle.cli_words.specs.declared.words.Command.{Command}
 use Rattle.cli_words.specs.declared.words.Command.TheVariants.{Scan, Fmt, Pack, Gen, Load, Append}
 use Rattle.cli_words.specs.declared.words.Command.TheVariants.{Follow, Upgrade}
 use Rattle.cli_words.specs.declared.words.Command.TheVariants.{Root, Ask, Prove, Verify, Expose}
-use Rattle.cli_words.specs.declared.words.Command.TheVariants.{Trace, ProveTrace, VerifyTrace}
-use Rattle.cli_words.specs.declared.words.Command.TheVariants.{Range, ProveRange, VerifyRange}
 use Rattle.cli_words.specs.declared.words.Command.TheVariants.{MakeLight, Light}
 use Rattle.cli_output.specs.Output.{Output, output_of, root_output, ask_output, prove_output}
-use Rattle.cli_output.specs.Output.{trace_output, prove_trace_output}
-use Rattle.cli_output.specs.Output.{range_output, prove_range_output, make_light_output}
+use Rattle.cli_output.specs.Output.{make_light_output}
 use Rattle.cli_output.specs.Output.{IsOnLog, Wants}
 use Rattle.cli_output.specs.Uses.{ChainUse, NoChain, InputRows, LogRows, LogLineage, LogRoots}
 use Rattle.cli_output.specs.Uses.{MadeLineage}
@@ -140,23 +137,13 @@ log_wanted : (command : Command) → asks_log (Some command) ≡ true → (input
     → Wants block_in compiled_in (Some command) input content output
 log_wanted (Root at) asks input content output is = on_log_is (λ logged. root_output compiled_in at input logged.blocks) input
     (standing next_in_chain content) output is
-log_wanted (Ask kind key at) asks input content output is = on_log_is
-    (λ logged. ask_output compiled_in kind key at input logged.blocks) input (standing next_in_chain content) output is
-log_wanted (Prove query root_at) asks input content output is = on_log_is
-    (λ logged. prove_output compiled_in query root_at input logged.blocks) input (standing next_in_chain content) output is
+log_wanted (Ask asked) asks input content output is = on_log_is
+    (λ logged. ask_output compiled_in asked input logged.blocks) input
+    (standing next_in_chain content) output is
+log_wanted (Prove question root_at) asks input content output is = on_log_is
+    (λ logged. prove_output compiled_in question root_at input logged.blocks) input
+    (standing next_in_chain content) output is
 log_wanted (Expose root query root_at) asks input content output is = is
-log_wanted (Trace key at) asks input content output is = on_log_is
-    (λ logged. trace_output compiled_in key at input logged.blocks) input
-    (standing next_in_chain content) output is
-log_wanted (ProveTrace key at root_at) asks input content output is = on_log_is
-    (λ logged. prove_trace_output compiled_in key at root_at input logged.blocks) input
-    (standing next_in_chain content) output is
-log_wanted (Range key from to) asks input content output is = on_log_is
-    (λ logged. range_output compiled_in key from to input logged.blocks) input
-    (standing next_in_chain content) output is
-log_wanted (ProveRange key from to root_at) asks input content output is = on_log_is
-    (λ logged. prove_range_output compiled_in key from to root_at input logged.blocks) input
-    (standing next_in_chain content) output is
 log_wanted MakeLight asks input content output is = on_log_is
     (λ logged. make_light_output compiled_in input logged.blocks) input
     (standing next_in_chain content) output is
@@ -168,9 +155,7 @@ log_wanted (Load generation) asks input content output is = absurd (cc asks)
 log_wanted Append asks input content output is = absurd (cc asks)
 log_wanted Follow asks input content output is = absurd (cc asks)
 log_wanted Upgrade asks input content output is = absurd (cc asks)
-log_wanted (Verify root query) asks input content output is = absurd (cc asks)
-log_wanted (VerifyTrace root key at) asks input content output is = absurd (cc asks)
-log_wanted (VerifyRange root key from to) asks input content output is = absurd (cc asks)
+log_wanted (Verify root question) asks input content output is = absurd (cc asks)
 log_wanted Light asks input content output is = absurd (cc asks)
 
 -- their chain was started

@@ -1,8 +1,7 @@
 pub mod Texts
 pub mod Blocks
+pub mod Questions
 pub mod Proofs
-pub mod Traces
-pub mod Ranges
 pub mod Frames
 pub mod Lights
 pub mod LoadLine

@@ -4,8 +4,6 @@ use Rattle.std.specs.Prelude.{◌≡◌, ℕ, ◌+◌, ◌-◌, ◌<◌, ◌≤�
 use Rattle.std.specs.Prelude.{if◌then◌else◌, List, [], ◌∷◌, ◌++◌, length, drop, map, Option}
 use Rattle.std.specs.Prelude.{Some, None, Ok, Err, codes}
 use Rattle.std.specs.List.{concat}
-use Rattle.lc_base.specs.History.{scan}
-use Rattle.lc_base.specs.declared.answer.Kind.{Kind}
 use Rattle.lc_base.specs.declared.answer.Query.{Query}
 use Rattle.block_codec.specs.Placement.{digest_of}
 use Rattle.block_codec.specs.Spelling.{Decoder, IsDecoder}
@@ -40,22 +38,15 @@ use Rattle.chain_pack.specs.Draft.{texts_of_draft}
 use Rattle.chain_pack.specs.Generator.{blocks_of_seed}
 use Rattle.chain_load.specs.Loads.{load_of}
 use Rattle.proof_codec.specs.declared.proof.Proof.{Proof}
-use Rattle.proof_checks.specs.Making.{made_proof}
 use Rattle.proof_checks.specs.ProofTexts.{proof_texts}
 use Rattle.replay_soundness.specs.Soundness.{replayed_texts}
 use Rattle.replay_soundness.specs.text_clashes.FirstClash.{IsFirstClash}
 use Rattle.proof_commands.specs.Verifying.{IsVerification}
 use Rattle.proof_commands.specs.declared.verification.Verification.{Verification}
-use Rattle.root_laws.specs.Ancestors.{trace_at}
-use Rattle.proof_checks.specs.declared.trace_proof.TraceProof.{TraceProof}
-use Rattle.proof_checks.specs.TraceMaking.{made_trace}
-use Rattle.proof_commands.specs.TraceVerifying.{IsTraceVerification}
-use Rattle.proof_commands.specs.declared.trace_verification.TraceVerification.{TraceVerification}
-use Rattle.root_laws.specs.Ranges.{between}
-use Rattle.proof_checks.specs.declared.range_proof.RangeProof.{RangeProof}
-use Rattle.proof_checks.specs.RangeMaking.{made_range}
-use Rattle.proof_commands.specs.RangeVerifying.{IsRangeVerification}
-use Rattle.proof_commands.specs.declared.range_verification.RangeVerification.{RangeVerification}
+use Rattle.cli_words.specs.declared.question.Question.{Question}
+use Rattle.cli_words.specs.declared.question.Question.TheVariants.{Version}
+use Rattle.cli_words.specs.declared.question.Asked.{Asked}
+use Rattle.cli_words.specs.declared.question.Asked.TheVariants.{At, AtLast}
 use Rattle.cli_words.specs.declared.words.Edition.{Edition}
 use Rattle.cli_words.specs.declared.words.Edition.TheVariants as editions
 use Rattle.cli_words.specs.declared.words.BlockVersion.{BlockVersion}
@@ -65,14 +56,12 @@ use Rattle.cli_words.specs.declared.words.Command.{Command}
 use Rattle.cli_words.specs.declared.words.Command.TheVariants.{Scan, Fmt, Pack, Gen, Load, Append}
 use Rattle.cli_words.specs.declared.words.Command.TheVariants.{Follow, Upgrade}
 use Rattle.cli_words.specs.declared.words.Command.TheVariants.{Root, Ask, Prove, Verify, Expose}
-use Rattle.cli_words.specs.declared.words.Command.TheVariants.{Trace, ProveTrace, VerifyTrace}
-use Rattle.cli_words.specs.declared.words.Command.TheVariants.{Range, ProveRange, VerifyRange}
 use Rattle.cli_words.specs.declared.words.Command.TheVariants.{MakeLight, Light}
 use Rattle.cli_promises.specs.cli_lines.Lines.{usage_line, beyond_line, root_line}
 use Rattle.cli_output.specs.LoadLine.{load_line}
-use Rattle.cli_promises.specs.cli_lines.Lines.{refused_line, answer_lines, trace_lines}
+use Rattle.cli_promises.specs.cli_lines.Lines.{refused_line}
 use Rattle.cli_promises.specs.cli_lines.Lines.{syntax_cause}
-use Rattle.cli_promises.specs.cli_lines.Lines.{check_cause, range_lines}
+use Rattle.cli_promises.specs.cli_lines.Lines.{check_cause}
 use Rattle.cli_promises.specs.cli_lines.Lines.{not_a_log_line, damaged_line}
 use Rattle.cli_promises.specs.cli_lines.Outcome.{status_of, outcome_with, bad_input}
 use Rattle.cli_promises.specs.cli_lines.declared.whole.TheConstants.{MAX_WHOLE_INPUT_BYTES}
@@ -82,11 +71,10 @@ use Rattle.cli_promises.specs.cli_lines.declared.outcome.Ending.TheVariants as e
 use Rattle.cli_promises.specs.cli_lines.declared.status.Status.{Status}
 use Rattle.cli_promises.specs.cli_lines.declared.status.Status.TheVariants as statuses
 use Rattle.cli_output.specs.Texts.{lines_of}
+use Rattle.cli_output.specs.Questions.{shown_in, last_block, shown_lines, made_bytes}
 use Rattle.cli_output.specs.Blocks.{frame, draft_outcome}
 use Rattle.cli_output.specs.Proofs.{proof_line, verification_outcome, is_accepted, IsAcceptedHex}
 use Rattle.cli_output.specs.Proofs.{clash_outcome}
-use Rattle.cli_output.specs.Traces.{trace_proof_line, trace_verification_outcome}
-use Rattle.cli_output.specs.Ranges.{range_proof_line, range_verification_outcome}
 use Rattle.cli_output.specs.Frames.{Framed, framed}
 use Rattle.cli_output.specs.Lights.{light_pieces, all_proof_lines, refused_lines, rejects_one}
 use Rattle.cli_output.specs.Lights.{light_ending}
@@ -132,14 +120,15 @@ outcome_at at blocks lines =
     if length blocks == 0 then beyond_outcome None
     else (if nat_lt at (length blocks) then outcome_with lines endings.Done else beyond_outcome (Some (length blocks - 1)))
 
--- The answer over the rows of a chain, if the chain has the block up to which it is asked for.
-abbrev pub answer_outcome : Compiler → Query → List Block → Outcome
-answer_outcome compile query blocks =
-    outcome_at query.at blocks (answer_lines (scan (replay compile blocks).rows query))
+-- The outcome of a question over the blocks of a chain: what is shown for it over the chain's rows,
+-- if the chain has the last block that it is about.
+abbrev pub ask_outcome : Compiler → Question → List Block → Outcome
+ask_outcome compile question blocks = outcome_at (last_block question) blocks
+    (shown_lines (shown_in (replay compile blocks).rows question))
 
 -- The outcome of `scan` over blocks, by how the frames end.
 abbrev pub scan_outcome : Compiler → Query → List Block → FoldEnd → Outcome
-scan_outcome compile query blocks Whole = answer_outcome compile query blocks
+scan_outcome compile query blocks Whole = ask_outcome compile (Version query) blocks
 scan_outcome compile query blocks (Refused frame cause) =
     outcome_with (refused_line frame cause ∷ []) endings.Refused
 
@@ -191,31 +180,12 @@ FormatsAgain edition input =
 
 -- The output of `verify` for an input and a root: the outcome of verifying the proof that the input
 -- is, in hex, or that it is too long.
-pub data IsVerifyOutput (root : List ℕ) (query : Query) (input : List ℕ) : Output → Type 0 where
-  LongProof : MAX_WHOLE_INPUT_BYTES < length input
-      → IsVerifyOutput root query input (long_output input)
-  Verified : FitsInput input → (told : Verification) → IsVerification root query input told →
-      IsVerifyOutput root query input (output_of (verification_outcome told) [])
-
--- The output of `trace verify` for an input and a root: the outcome of verifying the proof of
--- ancestors that the input is, in hex, or that it is too long.
-pub data IsVerifyTraceOutput (root key : List ℕ) (at : ℕ) (input : List ℕ) : Output → Type 0 where
-  LongTrace : MAX_WHOLE_INPUT_BYTES < length input
-      → IsVerifyTraceOutput root key at input (long_output input)
-  VerifiedTrace : FitsInput input → (told : TraceVerification)
-      → IsTraceVerification root key at input told
-      → IsVerifyTraceOutput root key at input (output_of (trace_verification_outcome told) [])
-
--- The output of `range verify` for an input and a root: the outcome of verifying the range proof
--- that the input is, in hex, or that it is too long.
-pub data IsVerifyRangeOutput (root key : List ℕ) (from to : ℕ) (input : List ℕ)
+pub data IsVerifyOutput (root : List ℕ) (question : Question) (input : List ℕ)
     : Output → Type 0 where
-  LongRange : MAX_WHOLE_INPUT_BYTES < length input
-      → IsVerifyRangeOutput root key from to input (long_output input)
-  VerifiedRange : FitsInput input → (told : RangeVerification)
-      → IsRangeVerification root key from to input told
-      → IsVerifyRangeOutput root key from to input
-      (output_of (range_verification_outcome told) [])
+  LongProof : MAX_WHOLE_INPUT_BYTES < length input
+      → IsVerifyOutput root question input (long_output input)
+  Verified : FitsInput input → (found : Verification) → IsVerification root question input found
+      → IsVerifyOutput root question input (output_of (verification_outcome found) [])
 
 -- The number of a version of blocks.
 abbrev pub version_number : BlockVersion → ℕ
@@ -325,10 +295,16 @@ abbrev pub at_or_last : Option ℕ → List Block → ℕ
 at_or_last (Some at) blocks = at
 at_or_last None blocks = length blocks - 1
 
--- The output of a question over the blocks of the log: its answer. It leaves the input.
-abbrev pub ask_output : Compiler → Kind → List ℕ → Option ℕ → List ℕ → List Block → Output
-ask_output compile kind key at input blocks =
-    output_of (answer_outcome compile (record { kind = kind; key = key; at = at_or_last at blocks }) blocks) input
+-- The question that is asked over blocks: one that names none is about the last one.
+abbrev pub question_in : Asked → List Block → Question
+question_in (At question) blocks = question
+question_in (AtLast kind key) blocks =
+    Version (record { kind = kind; key = key; at = at_or_last None blocks })
+
+-- The output of what is asked over the blocks of the log. It leaves the input.
+abbrev pub ask_output : Compiler → Asked → List ℕ → List Block → Output
+ask_output compile asked input blocks =
+    output_of (ask_outcome compile (question_in asked blocks) blocks) input
 
 -- The outcome of `root` for a block of a chain: the root at it, if the chain has the block.
 abbrev pub root_outcome : Compiler → ℕ → List Block → Outcome
@@ -340,85 +316,24 @@ abbrev pub root_output : Compiler → Option ℕ → List ℕ → List Block →
 root_output compile at input blocks =
     output_of (root_outcome compile (at_or_last at blocks) blocks) input
 
--- The proof that is made of the answer to a question over the blocks of a chain, for one who has
--- the root at a block.
-abbrev pub made_in : Compiler → List Block → Query → ℕ → Proof
-made_in compile blocks query root_at =
-    made_proof (replay compile blocks).rows (map digest_of blocks) root_at query
+-- The bytes of the proof that is made over the blocks of a chain, for one who has the root at a
+-- block.
+abbrev pub made_in : Compiler → List Block → Question → ℕ → List ℕ
+made_in compile blocks question root_at =
+    made_bytes (replay compile blocks).rows (map digest_of blocks) root_at question
 
 -- The outcome of `prove`: the line of the proof, if the chain has the block of the root and the
 -- question is about no later one.
-abbrev pub prove_outcome : Compiler → Query → ℕ → List Block → Outcome
-prove_outcome compile query root_at blocks =
-    if nat_le query.at root_at && nat_lt root_at (length blocks)
-    then outcome_with (proof_line (made_in compile blocks query root_at) ∷ []) endings.Done
+abbrev pub prove_outcome : Compiler → Question → ℕ → List Block → Outcome
+prove_outcome compile question root_at blocks =
+    if nat_le (last_block question) root_at && nat_lt root_at (length blocks)
+    then outcome_with (proof_line (made_in compile blocks question root_at) ∷ []) endings.Done
     else beyond_head blocks
 
 -- The output of `prove` over the blocks of the log. It leaves the input.
-abbrev pub prove_output : Compiler → Query → ℕ → List ℕ → List Block → Output
-prove_output compile query root_at input blocks =
-    output_of (prove_outcome compile query root_at blocks) input
-
--- The outcome of `trace` for a block of a chain: the last version of the key up to it, with its
--- ancestors, if the chain has the block.
-abbrev pub trace_outcome : Compiler → List ℕ → ℕ → List Block → Outcome
-trace_outcome compile key at blocks =
-    outcome_at at blocks (trace_lines (trace_at (replay compile blocks).rows key at))
-
--- The output of `trace` over the blocks of the log. It leaves the input.
-abbrev pub trace_output : Compiler → List ℕ → ℕ → List ℕ → List Block → Output
-trace_output compile key at input blocks = output_of (trace_outcome compile key at blocks) input
-
--- The proof that is made of the ancestors of a version over the blocks of a chain, for one who has
--- the root at a block.
-abbrev pub made_trace_in : Compiler → List Block → List ℕ → ℕ → ℕ → TraceProof
-made_trace_in compile blocks key at root_at =
-    made_trace (replay compile blocks).rows (map digest_of blocks) root_at key at
-
--- The outcome of `trace prove`: the line of the proof, if the chain has the block of the root and
--- the version is of no later one.
-abbrev pub prove_trace_outcome : Compiler → List ℕ → ℕ → ℕ → List Block → Outcome
-prove_trace_outcome compile key at root_at blocks =
-    if nat_le at root_at && nat_lt root_at (length blocks)
-    then outcome_with (trace_proof_line (made_trace_in compile blocks key at root_at) ∷ [])
-    endings.Done
-    else beyond_head blocks
-
--- The output of `trace prove` over the blocks of the log. It leaves the input.
-abbrev pub prove_trace_output : Compiler → List ℕ → ℕ → ℕ → List ℕ → List Block → Output
-prove_trace_output compile key at root_at input blocks =
-    output_of (prove_trace_outcome compile key at root_at blocks) input
-
--- The outcome of `range` for two blocks of a chain: all versions of the key between them, if the
--- chain has the last block.
-abbrev pub range_outcome : Compiler → List ℕ → ℕ → ℕ → List Block → Outcome
-range_outcome compile key from to blocks =
-    outcome_at to blocks (range_lines (between (replay compile blocks).rows key from to))
-
--- The output of `range` over the blocks of the log. It leaves the input.
-abbrev pub range_output : Compiler → List ℕ → ℕ → ℕ → List ℕ → List Block → Output
-range_output compile key from to input blocks =
-    output_of (range_outcome compile key from to blocks) input
-
--- The proof that is made of all versions between two blocks over the blocks of a chain, for one who
--- has the root at a block.
-abbrev pub made_range_in : Compiler → List Block → List ℕ → ℕ → ℕ → ℕ → RangeProof
-made_range_in compile blocks key from to root_at =
-    made_range (replay compile blocks).rows (map digest_of blocks) root_at key from to
-
--- The outcome of `range prove`: the line of the proof, if the chain has the block of the root and
--- the last block is no later one.
-abbrev pub prove_range_outcome : Compiler → List ℕ → ℕ → ℕ → ℕ → List Block → Outcome
-prove_range_outcome compile key from to root_at blocks =
-    if nat_le to root_at && nat_lt root_at (length blocks)
-    then outcome_with (range_proof_line (made_range_in compile blocks key from to root_at) ∷ [])
-    endings.Done
-    else beyond_head blocks
-
--- The output of `range prove` over the blocks of the log. It leaves the input.
-abbrev pub prove_range_output : Compiler → List ℕ → ℕ → ℕ → ℕ → List ℕ → List Block → Output
-prove_range_output compile key from to root_at input blocks =
-    output_of (prove_range_outcome compile key from to root_at blocks) input
+abbrev pub prove_output : Compiler → Question → ℕ → List ℕ → List Block → Output
+prove_output compile question root_at input blocks =
+    output_of (prove_outcome compile question root_at blocks) input
 
 -- The blocks reach the block of the root, and the question is about no later one.
 abbrev pub Reach : List Block → Query → ℕ → Type 0
@@ -434,8 +349,10 @@ pub data IsExposeOutput (compile : Compiler) (root : List ℕ) (query : Query) (
       → IsExposeOutput compile root query root_at input blocks (output_of (beyond_head blocks) input)
   LongExposed : Reach blocks query root_at → MAX_WHOLE_INPUT_BYTES < length input →
       IsExposeOutput compile root query root_at input blocks (long_output input)
-  NotAccepted : Reach blocks query root_at → FitsInput input → (told : Verification) → IsVerification root query input told → is_accepted told ≡ false →
-      IsExposeOutput compile root query root_at input blocks (output_of (verification_outcome told) [])
+  NotAccepted : Reach blocks query root_at → FitsInput input → (found : Verification)
+      → IsVerification root (Version query) input found → is_accepted found ≡ false
+      → IsExposeOutput compile root query root_at input blocks
+      (output_of (verification_outcome found) [])
   Exposed : Reach blocks query root_at → FitsInput input → (proof : Proof) → IsAcceptedHex root query input proof →
       (clash : Option (ℕ × ℕ)) → IsFirstClash (proof_texts proof) (replayed_texts compile blocks root_at) clash →
       IsExposeOutput compile root query root_at input blocks (output_of (clash_outcome (proof_texts proof) (replayed_texts compile blocks root_at) clash) [])
@@ -492,29 +409,16 @@ Wants read compile (Some Upgrade) input content output =
     output ≡ on_log (upgrade_output input) input (standing (next_by read compile) content)
 Wants read compile (Some (Root at)) input content output =
     output ≡ on_log (λ logged. root_output compile at input logged.blocks) input (standing (next_by read compile) content)
-Wants read compile (Some (Ask kind key at)) input content output =
-    output ≡ on_log (λ logged. ask_output compile kind key at input logged.blocks) input (standing (next_by read compile) content)
-Wants read compile (Some (Prove query root_at)) input content output =
-    output ≡ on_log (λ logged. prove_output compile query root_at input logged.blocks) input (standing (next_by read compile) content)
-Wants read compile (Some (Verify root query)) input content output = IsVerifyOutput root.0 query input output
+Wants read compile (Some (Ask asked)) input content output =
+    output ≡ on_log (λ logged. ask_output compile asked input logged.blocks) input
+    (standing (next_by read compile) content)
+Wants read compile (Some (Prove question root_at)) input content output =
+    output ≡ on_log (λ logged. prove_output compile question root_at input logged.blocks) input
+    (standing (next_by read compile) content)
+Wants read compile (Some (Verify root question)) input content output =
+    IsVerifyOutput root.0 question input output
 Wants read compile (Some (Expose root query root_at)) input content output =
     IsOnLog (λ logged. IsExposeOutput compile root.0 query root_at input logged.blocks) input (standing (next_by read compile) content) output
-Wants read compile (Some (Trace key at)) input content output =
-    output ≡ on_log (λ logged. trace_output compile key at input logged.blocks) input
-    (standing (next_by read compile) content)
-Wants read compile (Some (ProveTrace key at root_at)) input content output =
-    output ≡ on_log (λ logged. prove_trace_output compile key at root_at input logged.blocks) input
-    (standing (next_by read compile) content)
-Wants read compile (Some (VerifyTrace root key at)) input content output =
-    IsVerifyTraceOutput root.0 key at input output
-Wants read compile (Some (Range key from to)) input content output =
-    output ≡ on_log (λ logged. range_output compile key from to input logged.blocks) input
-    (standing (next_by read compile) content)
-Wants read compile (Some (ProveRange key from to root_at)) input content output =
-    output ≡ on_log (λ logged. prove_range_output compile key from to root_at input logged.blocks)
-    input (standing (next_by read compile) content)
-Wants read compile (Some (VerifyRange root key from to)) input content output =
-    IsVerifyRangeOutput root.0 key from to input output
 Wants read compile (Some MakeLight) input content output =
     output ≡ on_log (λ logged. make_light_output compile input logged.blocks) input
     (standing (next_by read compile) content)

@@ -1,14 +1,12 @@
 -- What is printed for proofs, by what verifying them returns.
 use Rattle.std.specs.Prelude.{◌≡◌, ℕ, Bool, true, false, List, [], ◌∷◌, ◌++◌, codes, decimal}
 use Rattle.std.specs.Prelude.{Option, Some, None, Ok, is_ok}
-use Rattle.std.specs.List.{concat}
 use Rattle.hex.specs.Hex.{encode_lower, decode_of}
 use Rattle.lc_base.specs.declared.answer.Query.{Query}
 use Rattle.proof_codec.specs.declared.proof.Proof.{Proof}
-use Rattle.proof_codec.specs.Spelling.{proof_fields}
 use Rattle.proof_codec.specs.Viewing.{Spells}
 use Rattle.proof_checks.specs.Checks.{verdict}
-use Rattle.proof_commands.specs.Lines.{rejected_line}
+use Rattle.proof_commands.specs.Refusing.{rejected_line}
 use Rattle.proof_commands.specs.Verifying.{hex_text}
 use Rattle.proof_commands.specs.declared.verification.HexFault.{HexFault}
 use Rattle.proof_commands.specs.declared.verification.HexFault.TheVariants.{Odd, At}
@@ -16,33 +14,35 @@ use Rattle.proof_commands.specs.declared.verification.Verification.{Verification
 use Rattle.proof_commands.specs.declared.verification.Verification.TheVariants.{Accepted, Rejected}
 use Rattle.proof_commands.specs.declared.verification.Verification.TheVariants.{BadHex}
 use Rattle.replay_soundness.specs.text_clashes.FirstClash.{text_at}
-use Rattle.cli_promises.specs.cli_lines.Lines.{line, answer_lines}
+use Rattle.cli_promises.specs.cli_lines.Lines.{line}
 use Rattle.cli_promises.specs.cli_lines.Outcome.{outcome_with, bad_input}
 use Rattle.cli_promises.specs.cli_lines.declared.outcome.Outcome.{Outcome}
 use Rattle.cli_promises.specs.cli_lines.declared.outcome.Ending.TheVariants as endings
+use Rattle.cli_output.specs.Questions.{shown_lines}
 
 -- The bytes of a proof in lower-case hex, as a line.
-abbrev pub proof_line : Proof → List ℕ
-proof_line proof = line (encode_lower (concat (proof_fields proof)))
+abbrev pub proof_line : List ℕ → List ℕ
+proof_line bytes = line (encode_lower bytes)
 
 -- Why an input is no hex, in words.
 abbrev pub hex_cause : HexFault → List ℕ
 hex_cause Odd = codes "odd"
 hex_cause (At at) = codes "at " ++ decimal at
 
--- The outcome of verifying a proof in hex: the lines of the answer; why the proof is not accepted;
--- or why the input is no hex.
+-- The outcome of verifying a proof in hex: the lines of what it shows; why it is not accepted; or
+-- why the input is no hex.
 abbrev pub verification_outcome : Verification → Outcome
-verification_outcome (Accepted answer) = outcome_with (answer_lines answer) endings.Done
-verification_outcome (Rejected reject) = outcome_with (rejected_line reject ∷ []) endings.Rejected
+verification_outcome (Accepted shown) = outcome_with (shown_lines shown) endings.Done
+verification_outcome (Rejected refused) =
+    outcome_with (rejected_line refused ∷ []) endings.Rejected
 verification_outcome (BadHex fault) = bad_input (hex_cause fault)
 
 -- ---- clashes with a proof
 
 -- Whether a proof in hex is accepted.
 abbrev pub is_accepted : Verification → Bool
-is_accepted (Accepted answer) = true
-is_accepted (Rejected reject) = false
+is_accepted (Accepted shown) = true
+is_accepted (Rejected refused) = false
 is_accepted (BadHex fault) = false
 
 -- An input is this proof in hex, and it is accepted under the root.

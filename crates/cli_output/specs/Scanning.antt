@@ -9,15 +9,13 @@ use Rattle.cli_promises.specs.chain_exec.Compiled.{compiled_in}
 use Rattle.cli_promises.specs.chain_replay.Chain.{ChainState, StandsFor}
 use Rattle.cli_words.specs.declared.words.Command.{Command}
 use Rattle.cli_words.specs.declared.words.Command.TheVariants.{Root, Ask, Prove, Expose}
-use Rattle.cli_words.specs.declared.words.Command.TheVariants.{Trace, ProveTrace}
-use Rattle.cli_words.specs.declared.words.Command.TheVariants.{Range, ProveRange, MakeLight}
+use Rattle.cli_words.specs.declared.words.Command.TheVariants.{MakeLight}
+use Rattle.cli_words.specs.declared.question.Question.{Question}
 use Rattle.cli_promises.specs.cli_lines.declared.outcome.Outcome.{Outcome}
 use Rattle.cli_promises.specs.cli_lines.declared.outcome.Ending.{Ending}
 use Rattle.cli_promises.specs.cli_lines.declared.outcome.Ending.TheVariants as endings
 use Rattle.cli_output.specs.Output.{Output, output_of, IsFmtOutput, IsVerifyOutput, IsExposeOutput}
 use Rattle.cli_output.specs.Output.{root_output, ask_output, prove_output, Wants}
-use Rattle.cli_output.specs.Output.{trace_output, prove_trace_output, IsVerifyTraceOutput}
-use Rattle.cli_output.specs.Output.{range_output, prove_range_output, IsVerifyRangeOutput}
 use Rattle.cli_output.specs.Output.{make_light_output}
 use Rattle.cli_output.specs.Running.{leaves, HeldIsGiven, IsGiven}
 use Rattle.cli_output.specs.Uses.{reads_input, uses_disk}
@@ -38,20 +36,9 @@ abbrev pub IsFmtOutcome : ℕ → Outcome → Option (List ℕ) → List ℕ →
 IsFmtOutcome edition outcome left input = GivesAny (IsFmtOutput edition input) outcome left
 
 -- The outcome and what is left of the input are those of `verify`.
-abbrev pub IsVerifyOutcome : List ℕ → Query → Outcome → Option (List ℕ) → List ℕ → Type 0
-IsVerifyOutcome root query outcome left input =
-    GivesAny (IsVerifyOutput root query input) outcome left
-
--- The outcome and what is left of the input are those of `trace verify`.
-abbrev pub IsVerifyTraceOutcome : List ℕ → List ℕ → ℕ → Outcome → Option (List ℕ) → List ℕ → Type 0
-IsVerifyTraceOutcome root key at outcome left input =
-    GivesAny (IsVerifyTraceOutput root key at input) outcome left
-
--- The outcome and what is left of the input are those of `range verify`.
-abbrev pub IsVerifyRangeOutcome : List ℕ → List ℕ → ℕ → ℕ → Outcome → Option (List ℕ) → List ℕ
-    → Type 0
-IsVerifyRangeOutcome root key from to outcome left input =
-    GivesAny (IsVerifyRangeOutput root key from to input) outcome left
+abbrev pub IsVerifyOutcome : List ℕ → Question → Outcome → Option (List ℕ) → List ℕ → Type 0
+IsVerifyOutcome root question outcome left input =
+    GivesAny (IsVerifyOutput root question input) outcome left
 
 -- The outcome and what is left of the input are those of `expose` against the blocks of the log.
 abbrev pub IsExposeOutcome : List ℕ → Query → ℕ → List Block → Outcome → Option (List ℕ) → List ℕ
@@ -77,20 +64,11 @@ IsFoundFor state left_old left_new held command found =
 -- Others have none.
 abbrev pub WantsOver : Command → List ℕ → List Block → Output → Type 0
 WantsOver (Root at) input blocks output = output ≡ root_output compiled_in at input blocks
-WantsOver (Ask kind key at) input blocks output =
-    output ≡ ask_output compiled_in kind key at input blocks
-WantsOver (Prove query root_at) input blocks output =
-    output ≡ prove_output compiled_in query root_at input blocks
+WantsOver (Ask asked) input blocks output = output ≡ ask_output compiled_in asked input blocks
+WantsOver (Prove question root_at) input blocks output =
+    output ≡ prove_output compiled_in question root_at input blocks
 WantsOver (Expose root query root_at) input blocks output =
     IsExposeOutput compiled_in root.0 query root_at input blocks output
-WantsOver (Trace key at) input blocks output =
-    output ≡ trace_output compiled_in key at input blocks
-WantsOver (ProveTrace key at root_at) input blocks output =
-    output ≡ prove_trace_output compiled_in key at root_at input blocks
-WantsOver (Range key from to) input blocks output =
-    output ≡ range_output compiled_in key from to input blocks
-WantsOver (ProveRange key from to root_at) input blocks output =
-    output ≡ prove_range_output compiled_in key from to root_at input blocks
 WantsOver MakeLight input blocks output = output ≡ make_light_output compiled_in input blocks
 WantsOver other input blocks output = ⊥
 

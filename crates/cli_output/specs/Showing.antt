@@ -1,6 +1,5 @@
--- What the answer that `verify` prints proves, what `expose` prints for a wrong one, what the
--- ancestors that `trace verify` prints and the versions that `range verify` prints prove, what the
--- answers that `light` prints prove, and whose chain `follow` goes on with.
+-- What the answers, ancestors and versions that `verify` prints prove, what `expose` prints for a
+-- wrong answer, what the answers that `light` prints prove, and whose chain `follow` goes on with.
 use Rattle.std.specs.Prelude.{◌≡◌, ◌≢◌, ◌⊎◌, ◌≤◌, ◌<◌, ℕ, ◌+◌, List, [], ◌∷◌, ◌++◌, map, Some}
 use Rattle.std.specs.Prelude.{length, take, Result, Ok, IfOk}
 use Rattle.std.specs.List.{All}
@@ -14,17 +13,17 @@ use Rattle.proof_codec.specs.declared.proof.Proof.{Proof}
 use Rattle.proof_codec.specs.Viewing.{Spells}
 use Rattle.proof_checks.specs.ProofTexts.{proof_texts}
 use Rattle.replay_soundness.specs.text_clashes.FirstClash.{text_at, ClashAt}
-use Rattle.proof_commands.specs.Verifying.{hex_text, IsVerification}
+use Rattle.proof_commands.specs.Verifying.{hex_text, ProofOf, SpellsFor, IsVerification}
+use Rattle.proof_commands.specs.declared.verification.Shown.{Shown}
+use Rattle.proof_commands.specs.declared.verification.Shown.TheVariants as shows
+use Rattle.cli_words.specs.declared.question.Question.{Question}
+use Rattle.cli_words.specs.declared.question.Question.TheVariants.{Version, Ancestors, Between}
 use Rattle.proof_commands.specs.declared.verification.Verification.TheVariants.{Accepted}
 use Rattle.replay_soundness.specs.Soundness.{HasRoot, replayed_answer}
 use Rattle.replay_soundness.specs.Soundness.{replayed_texts}
 use Rattle.replay_soundness.specs.Soundness.{ClashesWithReplay}
-use Rattle.replay_soundness.specs.Traces.{replayed_trace, TraceClashesWithReplay}
-use Rattle.proof_checks.specs.declared.trace_proof.TraceProof.{TraceProof}
-use Rattle.proof_checks.specs.TraceSpelling.{SpellsTrace}
-use Rattle.replay_soundness.specs.Ranges.{replayed_range, RangeClashesWithReplay}
-use Rattle.proof_checks.specs.declared.range_proof.RangeProof.{RangeProof}
-use Rattle.proof_checks.specs.RangeSpelling.{SpellsRange}
+use Rattle.replay_soundness.specs.Traces.{TraceClashesWithReplay}
+use Rattle.replay_soundness.specs.Ranges.{RangeClashesWithReplay}
 use Rattle.root_laws.specs.AncestorLaws.{AncestorsAreReached, ReachedVersionsAreAncestors}
 use Rattle.root_laws.specs.AncestorLaws.{AncestorsRise}
 use Rattle.byte_fields.specs.Spelling.{IsBytes}
@@ -33,6 +32,7 @@ use Rattle.cli_promises.specs.chain_exec.Replay.{replay}
 use Rattle.replay_soundness.specs.LightSoundness.{AnswersByFile, IsFileOfChain}
 use Rattle.replay_soundness.specs.TypedChains.{IsLawfulChain}
 use Rattle.proof_checks.specs.Making.{made_proof}
+use Rattle.lc_base.specs.History.{up_to}
 use Rattle.lc_base.specs.KeyBytes.{IsKey}
 use Rattle.proof_codec.specs.Spelling.{IsProof}
 use Rattle.replay_soundness.specs.light_client.Checking.{LightAnswer, IsLightVerdict}
@@ -47,33 +47,51 @@ use Rattle.cli_promises.specs.follower_steps.Events.{IsFrameOf}
 use Rattle.cli_promises.specs.follower_steps.Laws.{IsPrefixOf}
 use Rattle.cli_promises.specs.FollowLaws.{AreFramesOf}
 use Rattle.replay_soundness.specs.chain_input.Folding.{FoldEnd}
-use Rattle.cli_promises.specs.cli_lines.Lines.{answer_lines, trace_lines, range_lines}
 use Rattle.cli_promises.specs.cli_lines.declared.status.Status.TheVariants as statuses
 use Rattle.cli_output.specs.Output.{Output, FitsInput, IsVerifyOutput, IsExposeOutput}
-use Rattle.cli_output.specs.Output.{IsVerifyTraceOutput, IsVerifyRangeOutput}
 use Rattle.cli_output.specs.Output.{told_bytes, make_light_output, light_output, follow_to}
 use Rattle.cli_output.specs.Frames.{framed}
 use Rattle.cli_output.specs.Lights.{proof_lines, refused_lines}
 use Rattle.cli_output.specs.Proofs.{clash_line}
+use Rattle.cli_output.specs.Questions.{shown_in, shown_lines}
 
--- The input is this proof in hex.
-abbrev pub IsProofInHex : List ℕ → Proof → Type 0
-IsProofInHex input proof = (bytes : List ℕ) × (decode_of (hex_text input) ≡ Ok bytes) × Spells bytes proof
+-- The input is this proof of the question's kind, in hex.
+abbrev pub IsProofInHex : (question : Question) → List ℕ → ProofOf question → Type 0
+IsProofInHex question input proof =
+    (bytes : List ℕ) × (decode_of (hex_text input) ≡ Ok bytes) × SpellsFor question bytes proof
 
--- The lines are those of the answer of replaying the blocks of any chain that has the root, up to
--- the block at which it has it; or a text of the proof and one of that chain's ledger differ and
--- have one digest.
-abbrev pub TellsReplays : List ℕ → Query → Proof → List Line → Type 0
-TellsReplays root query proof lines =
+-- What is shown for a question by replaying the blocks of a chain and taking their rows up to a
+-- block.
+abbrev pub replayed_shown : Compiler → List Block → ℕ → Question → Shown
+replayed_shown compile blocks block question =
+    shown_in (up_to (replay compile blocks).rows block) question
+
+-- A text of a proof of the question's kind and one of a chain's ledger up to a block differ and have
+-- one digest.
+abbrev pub ClashesFor : (question : Question) → Compiler → List Block → ℕ → ProofOf question → Type 0
+ClashesFor (Version query) compile blocks block proof =
+    ClashesWithReplay compile blocks block proof
+ClashesFor (Ancestors key at) compile blocks block proof =
+    TraceClashesWithReplay compile blocks block proof
+ClashesFor (Between key from to) compile blocks block proof =
+    RangeClashesWithReplay compile blocks block proof
+
+-- The lines are those of what replaying the blocks of any chain that has the root shows for the
+-- question, up to the block at which the chain has it; or a text of the proof and one of that
+-- chain's ledger differ and have one digest.
+abbrev pub TellsReplays : List ℕ → (question : Question) → ProofOf question → List Line → Type 0
+TellsReplays root question proof lines =
     (compile : Compiler) (blocks : List Block) (block : ℕ) → HasRoot compile blocks block root
-    → (lines ≡ map plain (answer_lines (replayed_answer compile blocks block query))) ⊎ ClashesWithReplay compile blocks block proof
+    → (lines ≡ map plain (shown_lines (replayed_shown compile blocks block question)))
+    ⊎ ClashesFor question compile blocks block proof
 
--- If `verify` ends well, the input is a proof, and what it prints is the answer of every chain with
--- the root, or there is a clash.
-abbrev pub VerifiedAnswersHold : List ℕ → Query → List ℕ → Type 0
-VerifiedAnswersHold root query input =
-    (output : Output) → IsVerifyOutput root query input output → output.status ≡ statuses.Done
-    → (proof : Proof) × IsProofInHex input proof × TellsReplays root query proof output.lines
+-- If `verify` ends well, the input is a proof of the question's kind, and what it prints is what
+-- every chain with the root shows, or there is a clash.
+abbrev pub ProvedAnswersHold : List ℕ → Question → List ℕ → Type 0
+ProvedAnswersHold root question input =
+    (output : Output) → IsVerifyOutput root question input output → output.status ≡ statuses.Done
+    → (proof : ProofOf question) × IsProofInHex question input proof
+    × TellsReplays root question proof output.lines
 
 -- The line is that of a text of the first list and one of the second, which differ and have one
 -- digest.
@@ -87,14 +105,11 @@ TellsClash given own lines =
 abbrev pub WrongAnswersAreTold : List ℕ → Query → ℕ → List ℕ → Type 0
 WrongAnswersAreTold root query root_at input =
     (compile : Compiler) (blocks : List Block) (answer : Answer) (output : Output)
-    → HasRoot compile blocks root_at root → query.at ≤ root_at → FitsInput input → IsVerification root query input (Accepted answer)
+    → HasRoot compile blocks root_at root → query.at ≤ root_at → FitsInput input
+    → IsVerification root (Version query) input (Accepted (shows.Answer answer))
     → answer ≢ replayed_answer compile blocks root_at query → IsExposeOutput compile root query root_at input blocks output
-    → (proof : Proof) × IsProofInHex input proof × TellsClash (proof_texts proof) (replayed_texts compile blocks root_at) output.lines
-
--- The input is this proof of ancestors in hex.
-abbrev pub IsTraceInHex : List ℕ → TraceProof → Type 0
-IsTraceInHex input proof =
-    (bytes : List ℕ) × (decode_of (hex_text input) ≡ Ok bytes) × SpellsTrace bytes proof
+    → (proof : Proof) × IsProofInHex (Version query) input proof
+    × TellsClash (proof_texts proof) (replayed_texts compile blocks root_at) output.lines
 
 -- Which versions the ancestors of a version are, in a lawful history: those that are reached from it
 -- by one or more dependencies, each once, in the order of their blocks and keys.
@@ -102,47 +117,6 @@ pub record AncestorsAreTheReached : Type 0 where
   pub reached : AncestorsAreReached
   pub all : ReachedVersionsAreAncestors
   pub rise : AncestorsRise
-
--- The lines are those of the last version of the key up to the block, with its ancestors, of
--- replaying the blocks of any chain that has the root, up to the block at which it has it; or a text
--- of the proof and one of that chain's ledger differ and have one digest.
-abbrev pub TellsReplayedTraces : List ℕ → List ℕ → ℕ → TraceProof → List Line → Type 0
-TellsReplayedTraces root key at proof lines =
-    (compile : Compiler) (blocks : List Block) (block : ℕ) → HasRoot compile blocks block root
-    → (lines ≡ map plain (trace_lines (replayed_trace compile blocks block key at)))
-    ⊎ TraceClashesWithReplay compile blocks block proof
-
--- If `trace verify` ends well, the input is a proof of ancestors, and what it prints are those of
--- every chain with the root, or there is a clash.
-abbrev pub VerifiedTracesHold : List ℕ → List ℕ → ℕ → List ℕ → Type 0
-VerifiedTracesHold root key at input =
-    (output : Output) → IsVerifyTraceOutput root key at input output
-    → output.status ≡ statuses.Done
-    → (proof : TraceProof) × IsTraceInHex input proof
-    × TellsReplayedTraces root key at proof output.lines
-
--- The input is this range proof in hex.
-abbrev pub IsRangeInHex : List ℕ → RangeProof → Type 0
-IsRangeInHex input range =
-    (bytes : List ℕ) × (decode_of (hex_text input) ≡ Ok bytes) × SpellsRange bytes range
-
--- The lines are those of all versions of the key between the blocks, of replaying the blocks of any
--- chain that has the root, up to the block at which it has it; or a text of the proof and one of
--- that chain's ledger differ and have one digest.
-abbrev pub TellsReplayedRanges : List ℕ → List ℕ → ℕ → ℕ → RangeProof → List Line → Type 0
-TellsReplayedRanges root key from to range lines =
-    (compile : Compiler) (blocks : List Block) (block : ℕ) → HasRoot compile blocks block root
-    → (lines ≡ map plain (range_lines (replayed_range compile blocks block key from to)))
-    ⊎ RangeClashesWithReplay compile blocks block range
-
--- If `range verify` ends well, the input is a range proof, and what it prints are the versions of
--- every chain with the root, or there is a clash.
-abbrev pub VerifiedRangesHold : List ℕ → List ℕ → ℕ → ℕ → List ℕ → Type 0
-VerifiedRangesHold root key from to input =
-    (output : Output) → IsVerifyRangeOutput root key from to input output
-    → output.status ≡ statuses.Done
-    → (range : RangeProof) × IsRangeInHex input range
-    × TellsReplayedRanges root key from to range output.lines
 
 -- ---- light files
 

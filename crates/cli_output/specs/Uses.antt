@@ -5,36 +5,45 @@ use Rattle.cli_words.specs.declared.words.Command.{Command}
 use Rattle.cli_words.specs.declared.words.Command.TheVariants.{Scan, Fmt, Pack, Gen, Load, Append}
 use Rattle.cli_words.specs.declared.words.Command.TheVariants.{Follow, Upgrade}
 use Rattle.cli_words.specs.declared.words.Command.TheVariants.{Root, Ask, Prove, Verify, Expose}
-use Rattle.cli_words.specs.declared.words.Command.TheVariants.{Trace, ProveTrace, VerifyTrace}
-use Rattle.cli_words.specs.declared.words.Command.TheVariants.{Range, ProveRange, VerifyRange}
 use Rattle.cli_words.specs.declared.words.Command.TheVariants.{MakeLight, Light}
 
--- What is read of the input: nothing; frames of blocks; all of it, as a text; all of it, as a proof
--- that is checked; or a light file, and then frames of proofs that are checked by it.
+-- What is read of the input.
 pub data InputUse : Type 0 where
+  -- nothing
   Unread : InputUse
+  -- frames of blocks
   Frames : InputUse
+  -- all of it, as a text
   Text : InputUse
+  -- all of it, as a proof that is checked
   ProofText : InputUse
+  -- a light file, and then frames of proofs that are checked by it
   ProofFrames : InputUse
 
--- The chain that is worked over: none; the rows of the input's blocks; those of the log's blocks,
--- in memory; the lineage of the log's blocks, with bodies on the scratch device, which is asked, or
--- all roots of which are printed; that of blocks that are made; the lineage of the log's blocks, to
--- which others are appended; or the log by itself, which is marked.
+-- The chain that is worked over.
 pub data ChainUse : Type 0 where
+  -- none
   NoChain : ChainUse
+  -- the rows of the input's blocks
   InputRows : ChainUse
+  -- the rows of the log's blocks, in memory
   LogRows : ChainUse
+  -- the lineage of the log's blocks, with bodies on the scratch device, which is asked
   LogLineage : ChainUse
+  -- that lineage, of which all roots are printed
   LogRoots : ChainUse
+  -- the lineage of blocks that are made
   MadeLineage : ChainUse
+  -- the lineage of the log's blocks, to which others are appended
   LogAppended : ChainUse
+  -- the log by itself, which is marked
   LogMarked : ChainUse
 
--- When it is printed: once all is made, or each piece as soon as it is made.
+-- When it is printed.
 pub data PrintUse : Type 0 where
+  -- once all is made
   AtEnd : PrintUse
+  -- each piece as soon as it is made
   AsMade : PrintUse
 
 -- What a command uses.
@@ -55,20 +64,10 @@ use_of (Some Append) = record { input = Frames; chain = LogAppended; print = AsM
 use_of (Some Follow) = record { input = Frames; chain = LogAppended; print = AsMade }
 use_of (Some Upgrade) = record { input = Unread; chain = LogMarked; print = AtEnd }
 use_of (Some (Root at)) = record { input = Unread; chain = LogLineage; print = AtEnd }
-use_of (Some (Ask kind key at)) = record { input = Unread; chain = LogRows; print = AtEnd }
-use_of (Some (Prove query root_at)) = record { input = Unread; chain = LogLineage; print = AtEnd }
-use_of (Some (Verify root query)) = record { input = ProofText; chain = NoChain; print = AtEnd }
+use_of (Some (Ask asked)) = record { input = Unread; chain = LogRows; print = AtEnd }
+use_of (Some (Prove question root_at)) = record { input = Unread; chain = LogLineage; print = AtEnd }
+use_of (Some (Verify root question)) = record { input = ProofText; chain = NoChain; print = AtEnd }
 use_of (Some (Expose root query root_at)) = record { input = ProofText; chain = LogLineage; print = AtEnd }
-use_of (Some (Trace key at)) = record { input = Unread; chain = LogRows; print = AtEnd }
-use_of (Some (ProveTrace key at root_at)) = record
-    { input = Unread; chain = LogLineage; print = AtEnd }
-use_of (Some (VerifyTrace root key at)) = record
-    { input = ProofText; chain = NoChain; print = AtEnd }
-use_of (Some (Range key from to)) = record { input = Unread; chain = LogRows; print = AtEnd }
-use_of (Some (ProveRange key from to root_at)) = record
-    { input = Unread; chain = LogLineage; print = AtEnd }
-use_of (Some (VerifyRange root key from to)) = record
-    { input = ProofText; chain = NoChain; print = AtEnd }
 use_of (Some MakeLight) = record { input = Unread; chain = LogRoots; print = AsMade }
 use_of (Some Light) = record { input = ProofFrames; chain = NoChain; print = AsMade }
 

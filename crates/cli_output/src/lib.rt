@@ -4,6 +4,7 @@
 
 mod asking;
 mod loads;
+mod showing;
 mod starting;
 mod stop;
 mod telling;
@@ -16,13 +17,13 @@ pub use cli_promises::{
 };
 pub use loads::load_line;
 pub use proof_commands::{
-    HexFault, RangeVerification, TraceVerification, Verification, answer_of, decode_hex,
-    reject_text, rejected_line, rejected_range_line, rejected_trace_line, verify_hex,
-    verify_range_hex, verify_trace_hex,
+    HexFault, Refused, Shown, Verification, answer_of, decode_hex, reject_text, rejected_line,
+    verify_hex,
 };
 pub use replay_soundness::{
     BLOCKS_PER_PIECE, Checked, LightError, LightFile, LightReject, block_count, check, head, piece,
 };
+pub use showing::shown_lines;
 pub use starting::start_outcome;
 pub use stop::{OutcomeStop, status_of_stop};
 pub use telling::{tell, tell_all, tell_usage};

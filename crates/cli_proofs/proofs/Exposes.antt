@@ -21,15 +21,19 @@ use Rattle.proof_checks.specs.Checks.{verdict}
 use Rattle.proof_checks.specs.ProofTexts.{proof_texts}
 use Rattle.proof_checks.specs.LedgerTexts.{ledger_texts}
 use Rattle.proof_checks.specs.declared.reject.Reject.{Reject}
+use Rattle.lc_base.specs.declared.answer.Answer.{Answer}
 use Rattle.text_clashes.specs.FirstClash.{text_at}
 use Rattle.answer_exposing.specs.Exposing.{IsFound}
 use Rattle.answer_exposing.specs.declared.exposing.Clash.{Clash}
 use Rattle.proof_verifier.specs.Answering.{verdict_on}
-use Rattle.cli_output.specs.proof_commands.Lines.{rejected_line}
-use Rattle.cli_output.specs.proof_commands.Verifying.{hex_text, of_verdict, of_decoded}
-use Rattle.cli_output.specs.proof_commands.Verifying.{bytes_or_fault}
+use Rattle.cli_output.specs.proof_commands.Refusing.{rejected_line}
+use Rattle.cli_output.specs.proof_commands.Verifying.{hex_text, of_kind, of_verdict}
+use Rattle.cli_output.specs.proof_commands.Verifying.{of_decoded, bytes_or_fault}
 use Rattle.cli_output.specs.proof_commands.Verifying.{verification, IsVerification}
 use Rattle.cli_output.specs.proof_commands.declared.verification.HexFault.{HexFault}
+use Rattle.cli_output.specs.proof_commands.declared.verification.Shown.TheVariants as shows
+use Rattle.cli_output.specs.proof_commands.declared.verification.Refused.TheVariants as refusals
+use Rattle.cli_words.specs.declared.question.Question.TheVariants.{Version}
 use Rattle.cli_output.specs.proof_commands.declared.verification.Verification.{Verification}
 use Rattle.cli_output.specs.proof_commands.declared.verification.Verification.TheVariants.{Accepted}
 use Rattle.cli_output.specs.proof_commands.declared.verification.Verification.TheVariants.{Rejected}
@@ -58,23 +62,28 @@ use Rattle.cli_proofs.specs.Exposing.{texts_kept}
 -- ---- an input that was read whole, against what is kept of a chain
 
 abbrev by_bytes : List ℕ → Query → Result (List ℕ) FromHexError → Verification
-by_bytes root query r = of_decoded root query (bytes_or_fault r)
+by_bytes root query r = of_decoded root (Version query) (bytes_or_fault r)
+
+abbrev by_verdict : Result Answer Reject → Verification
+by_verdict v = of_verdict (of_kind shows.Answer refusals.Version v)
 
 told_so : (root : List ℕ) (query : Query) (input : List ℕ) (told : Verification)
-    → verification root query input ≡ told → IsVerification root query input told
-told_so root query input told is = subst (IsVerification root query input) is
-    (is_verification root query input)
+    → verification root (Version query) input ≡ told
+    → IsVerification root (Version query) input told
+told_so root query input told is = subst (IsVerification root (Version query) input) is
+    (is_verification root (Version query) input)
 
 pub refused_held : (ledger : Ledger) (root : List ℕ) (query : Query) (root_at : ℕ) (bytes : List ℕ)
     (reject : Reject) (outcome : Outcome) → verdict_on root query bytes ≡ Err reject
-    → outcome ≡ outcome_with (rejected_line reject ∷ []) endings.Rejected
+    → outcome ≡ outcome_with (rejected_line (refusals.Version reject) ∷ []) endings.Rejected
     → (input : List ℕ) → decode_of (hex_text input) ≡ Ok bytes
     → IsHeld ledger root query root_at input outcome
 refused_held ledger root query root_at bytes reject outcome fails made input decoded =
-    let told : verification root query input ≡ Rejected reject = ap (by_bytes root query) decoded
-    ∙ ap of_verdict fails in
+    let told : verification root (Version query) input ≡ Rejected (refusals.Version reject) =
+    ap (by_bytes root query) decoded ∙ ap by_verdict fails in
     subst (IsHeld ledger root query root_at input) (sym made)
-    (Refused (Rejected reject) (told_so root query input (Rejected reject) told) refl)
+    (Refused (Rejected (refusals.Version reject))
+    (told_so root query input (Rejected (refusals.Version reject)) told) refl)
 
 pub accepted_held : {E : Type 0} (ledger : Ledger) (root : List ℕ) (query : Query) (root_at : ℕ)
     (bytes : List ℕ) (proof : Proof) (result : Result Outcome E) → Spells bytes proof
@@ -98,7 +107,8 @@ pub bad_hex_held : (ledger : Ledger) (root : List ℕ) (query : Query) (root_at 
     → outcome ≡ bad_input (hex_cause fault)
     → IsHeld ledger root query root_at input outcome
 bad_hex_held ledger root query root_at input fault outcome is made =
-    let told : verification root query input ≡ BadHex fault = ap (of_decoded root query) is in
+    let told : verification root (Version query) input ≡ BadHex fault =
+    ap (of_decoded root (Version query)) is in
     subst (IsHeld ledger root query root_at input) (sym made)
     (Refused (BadHex fault) (told_so root query input (BadHex fault) told) refl)
 
@@ -254,8 +264,8 @@ module _ (ledger : Ledger) (kept : ChainState) (same : ledger ≡ ledger_kept ke
 -- ---- how it ends
 
 told_ends : (told : Verification) → EndsExposed (verification_outcome told).ending
-told_ends (Accepted answer) = tt
-told_ends (Rejected reject) = tt
+told_ends (Accepted shown) = tt
+told_ends (Rejected refused) = tt
 told_ends (BadHex fault) = tt
 
 found_ends : (found : Option Clash) → EndsExposed (found_outcome found).ending

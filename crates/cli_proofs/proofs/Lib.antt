@@ -1,10 +1,6 @@
 pub mod Verifies
 pub mod Proves
 pub mod Exposes
-pub mod TraceProves
-pub mod TraceVerifies
-pub mod RangeProves
-pub mod RangeVerifies
 pub mod Framed
 pub mod Proofs
 pub mod Checked

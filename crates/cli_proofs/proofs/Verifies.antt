@@ -2,7 +2,7 @@
 use Rattle.std.proofs.Common.{◌≡◌, ℕ, ◌+◌, List, [], ◌++◌, drop, Option, Some, None, Result}
 use Rattle.std.proofs.Common.{refl, sym, ap, ◌∙◌, subst}
 use Rattle.std.specs.Prelude.{codes, decimal, IfOk, IfSome}
-use Rattle.lc_base.specs.declared.answer.Query.{Query}
+use Rattle.cli_words.specs.declared.question.Question.{Question}
 use Rattle.lc_base.specs.declared.digest.Digest.{Digest}
 use Rattle.cli_output.specs.proof_commands.Verifying.{IsVerification}
 use Rattle.cli_output.specs.proof_commands.declared.verification.HexFault.{HexFault}
@@ -29,44 +29,44 @@ pub bad_at : {E : Type 0} (result : Result Outcome E) (fault : HexFault) (at : �
 bad_at result fault at text is told made = subst (λ (t : List ℕ). IfOk result (λ outcome. outcome ≡ bad_input t)) (told ∙ sym (ap hex_cause is)) made
 
 -- an input that was read whole
-whole_here : (root : List ℕ) (query : Query) (first left : Option (List ℕ)) (bytes : List ℕ)
+whole_here : (root : List ℕ) (question : Question) (first left : Option (List ℕ)) (bytes : List ℕ)
     (told : Verification) (outcome : Outcome) → IfSome first
     (λ input. IsWholeInput (Some bytes) input left)
-    → IsVerification root query bytes told → outcome ≡ verification_outcome told → IfSome first (λ input. IsVerifyOutcome root query outcome left input)
-whole_here root query None left bytes told outcome whole is made = tt
-whole_here root query (Some input) left bytes told outcome (alike, fits, rest) is made =
-    ([], rest, subst (λ (o : Outcome). IsVerifyOutput root query input (output_of o [])) (sym made) (Verified fits told (subst (λ (b : List ℕ). IsVerification root query b told) alike is)))
+    → IsVerification root question bytes told → outcome ≡ verification_outcome told → IfSome first (λ input. IsVerifyOutcome root question outcome left input)
+whole_here root question None left bytes told outcome whole is made = tt
+whole_here root question (Some input) left bytes told outcome (alike, fits, rest) is made =
+    ([], rest, subst (λ (o : Outcome). IsVerifyOutput root question input (output_of o [])) (sym made) (Verified fits told (subst (λ (b : List ℕ). IsVerification root question b told) alike is)))
 
-pub whole_verified : (root : List ℕ) (query : Query) (first left found : Option (List ℕ))
+pub whole_verified : (root : List ℕ) (question : Question) (first left found : Option (List ℕ))
     (bytes : List ℕ) (told : Verification) (outcome : Outcome) → found ≡ Some bytes
-    → IfSome first (λ input. IsWholeInput found input left) → IsVerification root query bytes told → outcome ≡ verification_outcome told → IfSome first (λ input. IsVerifyOutcome root query outcome left input)
-whole_verified root query first left found bytes told outcome some whole is made =
-    whole_here root query first left bytes told outcome (subst (λ (f : Option (List ℕ)). IfSome first (λ input. IsWholeInput f input left)) some whole) is made
+    → IfSome first (λ input. IsWholeInput found input left) → IsVerification root question bytes told → outcome ≡ verification_outcome told → IfSome first (λ input. IsVerifyOutcome root question outcome left input)
+whole_verified root question first left found bytes told outcome some whole is made =
+    whole_here root question first left bytes told outcome (subst (λ (f : Option (List ℕ)). IfSome first (λ input. IsWholeInput f input left)) some whole) is made
 
 -- an input that is too long
-long_here : (root : List ℕ) (query : Query) (first left : Option (List ℕ)) (outcome : Outcome)
+long_here : (root : List ℕ) (question : Question) (first left : Option (List ℕ)) (outcome : Outcome)
     → IfSome first (λ input. IsWholeInput None input left) → outcome ≡ bad_input (codes "long")
-    → IfSome first (λ input. IsVerifyOutcome root query outcome left input)
-long_here root query None left outcome whole is = tt
-long_here root query (Some input) left outcome (long, rest) is =
-    (drop (MAX_WHOLE_INPUT_BYTES + 1) input, rest, subst (λ (o : Outcome). IsVerifyOutput root query input (output_of o (drop (MAX_WHOLE_INPUT_BYTES + 1) input))) (sym is) (LongProof long))
+    → IfSome first (λ input. IsVerifyOutcome root question outcome left input)
+long_here root question None left outcome whole is = tt
+long_here root question (Some input) left outcome (long, rest) is =
+    (drop (MAX_WHOLE_INPUT_BYTES + 1) input, rest, subst (λ (o : Outcome). IsVerifyOutput root question input (output_of o (drop (MAX_WHOLE_INPUT_BYTES + 1) input))) (sym is) (LongProof long))
 
-pub long_verified : (root : List ℕ) (query : Query) (first left found : Option (List ℕ))
+pub long_verified : (root : List ℕ) (question : Question) (first left found : Option (List ℕ))
     (outcome : Outcome) → found ≡ None → IfSome first (λ input. IsWholeInput found input left)
     → outcome ≡ bad_input (codes "long")
-    → IfSome first (λ input. IsVerifyOutcome root query outcome left input)
-long_verified root query first left found outcome none whole is =
-    long_here root query first left outcome (subst (λ (f : Option (List ℕ)). IfSome first (λ input. IsWholeInput f input left)) none whole) is
+    → IfSome first (λ input. IsVerifyOutcome root question outcome left input)
+long_verified root question first left found outcome none whole is =
+    long_here root question first left outcome (subst (λ (f : Option (List ℕ)). IfSome first (λ input. IsWholeInput f input left)) none whole) is
 
 -- ---- how it ends
 
-told_ends : (root : Digest) (query : Query) (told : Verification) → MayEnd
-    (status_of (verification_outcome told).ending) (Some (Verify root query))
-told_ends root query (Accepted answer) = refl
-told_ends root query (Rejected reject) = refl
-told_ends root query (BadHex fault) = refl
+told_ends : (root : Digest) (question : Question) (told : Verification) → MayEnd
+    (status_of (verification_outcome told).ending) (Some (Verify root question))
+told_ends root question (Accepted shown) = refl
+told_ends root question (Rejected refused) = refl
+told_ends root question (BadHex fault) = refl
 
-pub verify_ends : (root : Digest) (query : Query) (told : Verification) (outcome : Outcome)
+pub verify_ends : (root : Digest) (question : Question) (told : Verification) (outcome : Outcome)
     → outcome ≡ verification_outcome told → MayEnd (status_of outcome.ending)
-    (Some (Verify root query))
-verify_ends root query told outcome made = subst (λ (o : Outcome). MayEnd (status_of o.ending) (Some (Verify root query))) (sym made) (told_ends root query told)
+    (Some (Verify root question))
+verify_ends root question told outcome made = subst (λ (o : Outcome). MayEnd (status_of o.ending) (Some (Verify root question))) (sym made) (told_ends root question told)

@@ -9,6 +9,7 @@ use Rattle.proof_checks.specs.ProofTexts.{proof_texts}
 use Rattle.proof_checks.specs.LedgerTexts.{ledger_texts}
 use Rattle.cli_output.specs.proof_commands.Verifying.{IsVerification}
 use Rattle.cli_output.specs.proof_commands.declared.verification.Verification.{Verification}
+use Rattle.cli_words.specs.declared.question.Question.TheVariants.{Version}
 use Rattle.answer_exposing.specs.Exposing.{IsFound}
 use Rattle.answer_exposing.specs.declared.exposing.Clash.{Clash}
 use Rattle.cli_output.specs.cli_lines.Outcome.{outcome_with}
@@ -37,7 +38,8 @@ texts_kept ledger at = ledger_texts ledger.rows ledger.digests at
 -- The outcome for an input that was read whole, against a ledger up to a block: that of `verify` if
 -- it does not accept the input, else the first clash with the proof, or that there is none.
 pub data IsHeld (ledger : Ledger) (root : List ℕ) (query : Query) (root_at : ℕ) (input : List ℕ) : Outcome → Type 0 where
-  Refused : (told : Verification) → IsVerification root query input told → is_accepted told ≡ false →
-      IsHeld ledger root query root_at input (verification_outcome told)
+  Refused : (found : Verification) → IsVerification root (Version query) input found
+      → is_accepted found ≡ false
+      → IsHeld ledger root query root_at input (verification_outcome found)
   Held : (proof : Proof) → IsAcceptedHex root query input proof → (found : Option Clash) → IsFound (proof_texts proof) (texts_kept ledger root_at) found →
       IsHeld ledger root query root_at input (found_outcome found)

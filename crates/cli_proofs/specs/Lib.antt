@@ -1,2 +1,3 @@
 pub mod Exposing
+pub mod Proving
 pub mod Checking

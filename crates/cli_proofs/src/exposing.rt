@@ -46,7 +46,9 @@ ghost use Rattle.cli_proofs.specs.Exposing.{
 use crate::lines::line_of;
 use crate::verifying::{bad_hex, rejected_outcome};
 use answer_exposing::{Clash, expose as expose_proof};
-use cli_output::{Ending, Outcome, OutcomeStop, beyond, decode_hex, hex_after, read_whole};
+use cli_output::{
+    Ending, Outcome, OutcomeStop, Refused, beyond, decode_hex, hex_after, read_whole,
+};
 use lc_base::{Bytes, Digest, Memory, Query};
 use lc_io::{Scratch, Source};
 use merkle_dag::{Lineage, QueryError};
@@ -135,7 +137,7 @@ fn input_outcome<S: Scratch>(
     match decode_hex(alloc, input)? {
         Ok(bytes) => match accept(root, query, bytes.as_bytes()) {
             Ok(proof) => accepted_outcome(alloc, root_at, lineage, scratch, &proof),
-            Err(reject) => Ok(rejected_outcome(alloc, &reject)?),
+            Err(reject) => Ok(rejected_outcome(alloc, &Refused::Version(reject))?),
         },
         Err(fault) => Ok(bad_hex(alloc, &fault)?),
     }

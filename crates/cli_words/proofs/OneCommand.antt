@@ -1,8 +1,8 @@
 -- Words are one command or none: commands that differ have words that differ.
-use Rattle.std.proofs.Common.{◌≡◌, ℕ, ◌<◌, ◌^◌, Bool, if◌then◌else◌, List, [], ◌∷◌, Option, Some, None, refl, sym, ap, subst, ◌∙◌, arith}
+use Rattle.std.proofs.Common.{◌≡◌, ℕ, ◌<◌, ◌^◌, Bool, if◌then◌else◌, List, [], ◌∷◌, ◌++◌, Option, Some, None, refl, sym, ap, subst, ◌∙◌, arith}
 use Rattle.std.specs.Prelude.{◌==◌}
 use Rattle.std.specs.Cmp.Lexicographic.{pointwise}
-use Rattle.lc_base.specs.KeyBytes.{IsKey}
+use Rattle.std.proofs.lemmas.List.{append_assoc, append_cancel_left, same_from_push}
 use Rattle.std.specs.Prelude.{decimal, codes, IfSome}
 use Rattle.std.proofs.lemmas.Fmt.{decimal_injective}
 use Rattle.hex.specs.Hex.{decode_of, encode_lower}
@@ -19,10 +19,16 @@ use Rattle.cli_words.specs.declared.words.Generation.{Generation}
 use Rattle.cli_words.specs.declared.words.Command.{Command}
 use Rattle.cli_words.specs.declared.words.Command.TheVariants.{Scan, Fmt, Pack, Gen, Load, Append}
 use Rattle.cli_words.specs.declared.words.Command.TheVariants.{Follow, Upgrade, Root, Ask, Prove}
-use Rattle.cli_words.specs.declared.words.Command.TheVariants.{Verify, Expose, Trace, ProveTrace}
-use Rattle.cli_words.specs.declared.words.Command.TheVariants.{VerifyTrace, Range, ProveRange}
-use Rattle.cli_words.specs.declared.words.Command.TheVariants.{VerifyRange, MakeLight, Light}
-use Rattle.cli_words.specs.Words.{kind_word, query_words, scan_words, fmt_words, pack_words, generation_words, ask_words, root_words, prove_words, verify_words, expose_words, trace_words, prove_trace_words, verify_trace_words, range_words, prove_range_words, verify_range_words, command_words, IsQuery, IsGeneration, IsRootGiven, AreBlocks, Fits, CanBeGiven, IsCommand, IsOneCommand}
+use Rattle.cli_words.specs.declared.words.Command.TheVariants.{Verify, Expose, MakeLight, Light}
+use Rattle.cli_words.specs.declared.question.Question.{Question}
+use Rattle.cli_words.specs.declared.question.Question.TheVariants.{Version, Ancestors, Between}
+use Rattle.cli_words.specs.declared.question.Asked.TheVariants.{At, AtLast}
+use Rattle.cli_words.specs.Words.{kind_word, query_words, fmt_words, pack_words}
+use Rattle.cli_words.specs.Words.{generation_words, ask_words, root_words, prove_words}
+use Rattle.cli_words.specs.Words.{verify_words, expose_words, lead_words, subject_words}
+use Rattle.cli_words.specs.Words.{command_words}
+use Rattle.cli_words.specs.Words.{IsQuery, IsGeneration, IsRootGiven, AreBlocks, IsQuestion}
+use Rattle.cli_words.specs.Words.{Fits, CanBeGiven, IsCommand, IsOneCommand}
 
 pub one_number : (m n : ℕ) → m < 2 ^ 32 → n < 2 ^ 32 → decimal m ≡ decimal n → m ≡ n
 one_number m n small fits same =
@@ -82,42 +88,12 @@ one_version versions.First versions.Second same = absurd cc
 one_version versions.Second versions.First same = absurd cc
 one_version versions.Second versions.Second same = refl
 
-one_at : (a b : Option ℕ) → Fits a → Fits b → (k l : Kind) (x y : List ℕ)
-    → ask_words k x a ≡ ask_words l y b → (k ≡ l) × (x ≡ y) × (a ≡ b)
-one_at None None is_a is_b k l x y same = (one_kind k l cc, cc, refl)
-one_at None (Some n) is_a is_b k l x y same = absurd cc
-one_at (Some m) None is_a is_b k l x y same = absurd cc
-one_at (Some m) (Some n) is_a is_b k l x y same =
-    let numbers : decimal m ≡ decimal n = cc in
-    (one_kind k l cc, cc, ap Some (one_number m n is_a is_b numbers))
-
-one_ask : (k l : Kind) (x y : List ℕ) (a b : Option ℕ) → Fits a → Fits b
-    → ask_words k x a ≡ ask_words l y b → Ask k x a ≡ Ask l y b
-one_ask k l x y a b is_a is_b same =
-    let all = one_at a b is_a is_b k l x y same in
-    ap (λ (kind : Kind). Ask kind x a) all.0 ∙ ap (λ (key : List ℕ). Ask l key a) all.1 ∙ ap (λ (at : Option ℕ). Ask l y at) all.2
-
-one_prove : (a b : Query) (m n : ℕ) → IsQuery a × (m < 2 ^ 32) → IsQuery b × (n < 2 ^ 32)
-    → prove_words a m ≡ prove_words b n → Prove a m ≡ Prove b n
-one_prove a b m n is_a is_b same =
-    let kinds : kind_word a.kind ≡ kind_word b.kind = cc in
-    let keys : a.key ≡ b.key = cc in
-    let asked : decimal a.at ≡ decimal b.at = cc in
-    let roots : decimal m ≡ decimal n = cc in
-    ap (λ (q : Query). Prove q m) (one_query a b is_a.0 is_b.0 cc) ∙ ap (Prove b) (one_number m n is_a.1 is_b.1 roots)
-
 one_digest : (a b : Digest) → IsRootGiven a → IsRootGiven b → encode_lower a.0 ≡ encode_lower b.0
     → a ≡ b
 one_digest a b is_a is_b same =
     let read = sym (decode_of-encode_lower a.0 is_a.bytes) ∙ ap decode_of same ∙ decode_of-encode_lower b.0 is_b.bytes in
     let bytes : a.0 ≡ b.0 = cc in
     ap (λ (bytes : List ℕ). record { 0 = bytes }) bytes
-
-one_verify : (m n : Digest) (a b : Query) → IsRootGiven m × IsQuery a → IsRootGiven n × IsQuery b
-    → verify_words m a ≡ verify_words n b → Verify m a ≡ Verify n b
-one_verify m n a b is_a is_b same =
-    let roots : encode_lower m.0 ≡ encode_lower n.0 = cc in
-    ap (λ (root : Digest). Verify root a) (one_digest m n is_a.0 is_b.0 roots) ∙ ap (Verify n) (one_query a b is_a.1 is_b.1 cc)
 
 one_expose : (m n : Digest) (a b : Query) (i j : ℕ) → IsRootGiven m × IsQuery a × (i < 2 ^ 32)
     → IsRootGiven n × IsQuery b × (j < 2 ^ 32) → expose_words m a i ≡ expose_words n b j
@@ -132,34 +108,7 @@ one_expose m n a b i j is_a is_b same =
     ∙ ap (λ (q : Query). Expose n q i) (one_query a b is_a.1 is_b.1 cc)
     ∙ ap (Expose n b) (one_number i j is_a.2 is_b.2 blocks)
 
-one_trace : (x y : List ℕ) (i j : ℕ) → IsKey x × (i < 2 ^ 32) → IsKey y × (j < 2 ^ 32)
-    → trace_words x i ≡ trace_words y j → Trace x i ≡ Trace y j
-one_trace x y i j is_a is_b same =
-    let keys : x ≡ y = cc in
-    let asked : decimal i ≡ decimal j = cc in
-    ap (λ (key : List ℕ). Trace key i) keys ∙ ap (Trace y) (one_number i j is_a.1 is_b.1 asked)
-
-one_prove_trace : (x y : List ℕ) (i j m n : ℕ) → IsKey x × (i < 2 ^ 32) × (m < 2 ^ 32)
-    → IsKey y × (j < 2 ^ 32) × (n < 2 ^ 32) → prove_trace_words x i m ≡ prove_trace_words y j n
-    → ProveTrace x i m ≡ ProveTrace y j n
-one_prove_trace x y i j m n is_a is_b same =
-    let keys : x ≡ y = cc in
-    let asked : decimal i ≡ decimal j = cc in
-    let roots : decimal m ≡ decimal n = cc in
-    ap (λ (key : List ℕ). ProveTrace key i m) keys
-    ∙ ap (λ (at : ℕ). ProveTrace y at m) (one_number i j is_a.1 is_b.1 asked)
-    ∙ ap (ProveTrace y j) (one_number m n is_a.2 is_b.2 roots)
-
-one_verify_trace : (m n : Digest) (x y : List ℕ) (i j : ℕ)
-    → IsRootGiven m × IsKey x × (i < 2 ^ 32) → IsRootGiven n × IsKey y × (j < 2 ^ 32)
-    → verify_trace_words m x i ≡ verify_trace_words n y j → VerifyTrace m x i ≡ VerifyTrace n y j
-one_verify_trace m n x y i j is_a is_b same =
-    let roots : encode_lower m.0 ≡ encode_lower n.0 = cc in
-    let keys : x ≡ y = cc in
-    let asked : decimal i ≡ decimal j = cc in
-    ap (λ (root : Digest). VerifyTrace root x i) (one_digest m n is_a.0 is_b.0 roots)
-    ∙ ap (λ (key : List ℕ). VerifyTrace n key i) keys
-    ∙ ap (VerifyTrace n y) (one_number i j is_a.2 is_b.2 asked)
+-- ---- questions
 
 -- ranges have the same blocks if their words do
 one_pair : {A : Type 0} (make : ℕ → ℕ → A) (i j m n : ℕ) → AreBlocks i m → AreBlocks j n
@@ -170,44 +119,138 @@ one_pair make i j m n is_a is_b first last =
     ap (λ (from : ℕ). make from m) (one_number i j low other first)
     ∙ ap (make j) (one_number m n is_a.last_fits is_b.last_fits last)
 
-one_range : (x y : List ℕ) (i j m n : ℕ) → IsKey x × AreBlocks i m → IsKey y × AreBlocks j n
-    → range_words x i m ≡ range_words y j n → Range x i m ≡ Range y j n
-one_range x y i j m n is_a is_b same =
+one_between : (x y : List ℕ) (i j m n : ℕ) → AreBlocks i m → AreBlocks j n
+    → x ∷ decimal i ∷ decimal m ∷ [] ≡ y ∷ decimal j ∷ decimal n ∷ []
+    → Between x i m ≡ Between y j n
+one_between x y i j m n is_a is_b same =
     let keys : x ≡ y = cc in
     let first : decimal i ≡ decimal j = cc in
     let last : decimal m ≡ decimal n = cc in
-    ap (λ (key : List ℕ). Range key i m) keys
-    ∙ one_pair (Range y) i j m n is_a.1 is_b.1 first last
+    ap (λ (key : List ℕ). Between key i m) keys
+    ∙ one_pair (Between y) i j m n is_a is_b first last
 
-one_prove_range : (x y : List ℕ) (i j m n a b : ℕ) → IsKey x × AreBlocks i m × (a < 2 ^ 32)
-    → IsKey y × AreBlocks j n × (b < 2 ^ 32)
-    → prove_range_words x i m a ≡ prove_range_words y j n b
-    → ProveRange x i m a ≡ ProveRange y j n b
-one_prove_range x y i j m n a b is_a is_b same =
+one_ancestors : (x y : List ℕ) (i j : ℕ) → i < 2 ^ 32 → j < 2 ^ 32
+    → x ∷ decimal i ∷ [] ≡ y ∷ decimal j ∷ [] → Ancestors x i ≡ Ancestors y j
+one_ancestors x y i j is_a is_b same =
     let keys : x ≡ y = cc in
-    let first : decimal i ≡ decimal j = cc in
-    let last : decimal m ≡ decimal n = cc in
-    let roots : decimal a ≡ decimal b = cc in
-    ap (λ (key : List ℕ). ProveRange key i m a) keys
-    ∙ one_pair (λ from to. ProveRange y from to a) i j m n is_a.1 is_b.1 first last
-    ∙ ap (ProveRange y j n) (one_number a b is_a.2 is_b.2 roots)
+    let asked : decimal i ≡ decimal j = cc in
+    ap (λ (key : List ℕ). Ancestors key i) keys ∙ ap (Ancestors y) (one_number i j is_a is_b asked)
 
-one_verify_range : (a b : Digest) (x y : List ℕ) (i j m n : ℕ)
-    → IsRootGiven a × IsKey x × AreBlocks i m → IsRootGiven b × IsKey y × AreBlocks j n
-    → verify_range_words a x i m ≡ verify_range_words b y j n
-    → VerifyRange a x i m ≡ VerifyRange b y j n
-one_verify_range a b x y i j m n is_a is_b same =
-    let roots : encode_lower a.0 ≡ encode_lower b.0 = cc in
+-- the kind of a question
+pub data Lead : Type 0 where
+  OfVersion : Lead
+  OfAncestors : Lead
+  OfBetween : Lead
+
+abbrev pub lead_of : Question → Lead
+lead_of (Version query) = OfVersion
+lead_of (Ancestors key at) = OfAncestors
+lead_of (Between key from to) = OfBetween
+
+-- a question of a kind is that of what it is about
+abbrev HasLead : Lead → Question → Type 0
+HasLead OfVersion question = (query : Query) × (question ≡ Version query)
+HasLead OfAncestors question = (key : List ℕ) × (at : ℕ) × (question ≡ Ancestors key at)
+HasLead OfBetween question =
+    (key : List ℕ) × (from : ℕ) × (to : ℕ) × (question ≡ Between key from to)
+
+has_lead : (question : Question) → HasLead (lead_of question) question
+has_lead (Version query) = (query, refl)
+has_lead (Ancestors key at) = (key, at, refl)
+has_lead (Between key from to) = (key, from, to, refl)
+
+abbrev AreOneAsked : Question → Question → Type 0
+AreOneAsked a b = IsQuestion a → IsQuestion b → subject_words a ≡ subject_words b → a ≡ b
+
+one_of_kind : (a b : Question) → HasLead (lead_of a) b → AreOneAsked a b
+one_of_kind (Version a) b (q, is) = subst (AreOneAsked (Version a)) (sym is)
+    (λ is_a is_b same. ap Version (one_query a q is_a is_b same))
+one_of_kind (Ancestors x i) b (y, j, is) = subst (AreOneAsked (Ancestors x i)) (sym is)
+    (λ is_a is_b same. one_ancestors x y i j is_a.1 is_b.1 same)
+one_of_kind (Between x i m) b (y, j, n, is) = subst (AreOneAsked (Between x i m)) (sym is)
+    (λ is_a is_b same. one_between x y i j m n is_a.1 is_b.1 same)
+
+one_question : (a b : Question) → lead_of a ≡ lead_of b → AreOneAsked a b
+one_question a b leads = one_of_kind a b
+    (subst (λ (lead : Lead). HasLead lead b) (sym leads) (has_lead b))
+
+-- the word with which the forms of a kind begin
+abbrev pub lead_of_kind : Lead → List (List ℕ)
+lead_of_kind OfVersion = []
+lead_of_kind OfAncestors = codes "trace" ∷ []
+lead_of_kind OfBetween = codes "range" ∷ []
+
+lead_is : (question : Question) → lead_of_kind (lead_of question) ≡ lead_words question
+lead_is (Version query) = refl
+lead_is (Ancestors key at) = refl
+lead_is (Between key from to) = refl
+
+-- what follows it is the same in the same words
+pub after_lead : (lead : Lead) (question : Question) (xs ys : List (List ℕ))
+    → lead ≡ lead_of question → lead_of_kind lead ++ xs ≡ lead_words question ++ ys
+    → (lead_of_kind lead ≡ lead_words question) × (xs ≡ ys)
+after_lead lead question xs ys leads same =
+    let is : lead_of_kind lead ≡ lead_words question = ap lead_of_kind leads ∙ lead_is question in (
+      is,
+      append_cancel_left (lead_words question) xs ys
+          (ap (λ (l : List (List ℕ)). l ++ xs) (sym is) ∙ same),
+    )
+
+pub after_form : (lead : Lead) (question : Question) (xs ys us vs : List (List ℕ))
+    → lead ≡ lead_of question
+    → (lead_of_kind lead ++ xs) ++ us ≡ (lead_words question ++ ys) ++ vs
+    → (lead_of_kind lead ≡ lead_words question) × (xs ++ us ≡ ys ++ vs)
+after_form lead question xs ys us vs leads same =
+    after_lead lead question (xs ++ us) (ys ++ vs) leads
+    (sym (append_assoc (lead_of_kind lead) xs us) ∙ same ∙ append_assoc (lead_words question) ys vs)
+
+after_leads : (a b : Question) (xs ys : List (List ℕ)) → lead_of a ≡ lead_of b
+    → lead_words a ++ xs ≡ lead_words b ++ ys → xs ≡ ys
+after_leads a b xs ys leads same = (after_lead (lead_of a) b xs ys leads
+    (ap (λ (l : List (List ℕ)). l ++ xs) (lead_is a) ∙ same)).1
+
+after_forms : (a b : Question) (xs ys us vs : List (List ℕ)) → lead_of a ≡ lead_of b
+    → (lead_words a ++ xs) ++ us ≡ (lead_words b ++ ys) ++ vs → xs ++ us ≡ ys ++ vs
+after_forms a b xs ys us vs leads same = (after_form (lead_of a) b xs ys us vs leads
+    (ap (λ (l : List (List ℕ)). (l ++ xs) ++ us) (lead_is a) ∙ same)).1
+
+one_prove : (a b : Question) (m n : ℕ) → lead_of a ≡ lead_of b → IsQuestion a × (m < 2 ^ 32)
+    → IsQuestion b × (n < 2 ^ 32) → prove_words a m ≡ prove_words b n → Prove a m ≡ Prove b n
+one_prove a b m n leads is_a is_b same =
+    let word : List (List ℕ) = codes "prove" ∷ [] in
+    let parts = same_from_push ((lead_words a ++ word) ++ subject_words a)
+    ((lead_words b ++ word) ++ subject_words b) (decimal m) (decimal n) same in
+    let forms = after_forms a b word word (subject_words a) (subject_words b) leads parts.0 in
+    let subjects : subject_words a ≡ subject_words b = cc in
+    ap (λ (q : Question). Prove q m) (one_question a b leads is_a.0 is_b.0 subjects)
+    ∙ ap (Prove b) (one_number m n is_a.1 is_b.1 parts.1)
+
+one_verify : (m n : Digest) (a b : Question) → lead_of a ≡ lead_of b → IsRootGiven m × IsQuestion a
+    → IsRootGiven n × IsQuestion b → verify_words m a ≡ verify_words n b → Verify m a ≡ Verify n b
+one_verify m n a b leads is_a is_b same =
+    let forms = after_forms a b (codes "verify" ∷ encode_lower m.0 ∷ [])
+    (codes "verify" ∷ encode_lower n.0 ∷ []) (subject_words a) (subject_words b) leads same in
+    let roots : encode_lower m.0 ≡ encode_lower n.0 = cc in
+    let subjects : subject_words a ≡ subject_words b = cc in
+    ap (λ (root : Digest). Verify root a) (one_digest m n is_a.0 is_b.0 roots)
+    ∙ ap (Verify n) (one_question a b leads is_a.1 is_b.1 subjects)
+
+one_ask : (a b : Question) → lead_of a ≡ lead_of b → IsQuestion a → IsQuestion b
+    → ask_words (At a) ≡ ask_words (At b) → Ask (At a) ≡ Ask (At b)
+one_ask a b leads is_a is_b same =
+    ap (λ (q : Question). Ask (At q)) (one_question a b leads is_a is_b (after_leads a b (subject_words a) (subject_words b) leads same))
+
+one_last : (k l : Kind) (x y : List ℕ) → ask_words (AtLast k x) ≡ ask_words (AtLast l y)
+    → Ask (AtLast k x) ≡ Ask (AtLast l y)
+one_last k l x y same =
+    let kinds : kind_word k ≡ kind_word l = cc in
     let keys : x ≡ y = cc in
-    let first : decimal i ≡ decimal j = cc in
-    let last : decimal m ≡ decimal n = cc in
-    ap (λ (root : Digest). VerifyRange root x i m) (one_digest a b is_a.0 is_b.0 roots)
-    ∙ ap (λ (key : List ℕ). VerifyRange b key i m) keys
-    ∙ one_pair (VerifyRange b y) i j m n is_a.2 is_b.2 first last
+    ap (λ (kind : Kind). Ask (AtLast kind x)) (one_kind k l kinds)
+    ∙ ap (λ (key : List ℕ). Ask (AtLast l key)) keys
 
 -- ---- the form of a command, which its words tell
 
-data Form : Type 0 where
+pub data Form : Type 0 where
   IsScanForm : Form
   IsFmtForm : Form
   IsPackForm : Form
@@ -217,16 +260,11 @@ data Form : Type 0 where
   IsFollowForm : Form
   IsUpgradeForm : Form
   IsRootForm : Form
-  IsAskForm : Form
-  IsProveForm : Form
-  IsVerifyForm : Form
+  IsAskForm : Lead → Form
+  IsLastForm : Form
+  IsProveForm : Lead → Form
+  IsVerifyForm : Lead → Form
   IsExposeForm : Form
-  IsTraceForm : Form
-  IsProveTraceForm : Form
-  IsVerifyTraceForm : Form
-  IsRangeForm : Form
-  IsProveRangeForm : Form
-  IsVerifyRangeForm : Form
   IsMakeLightForm : Form
   IsLightForm : Form
   NoForm : Form
@@ -241,16 +279,11 @@ form_of Append = IsAppendForm
 form_of Follow = IsFollowForm
 form_of Upgrade = IsUpgradeForm
 form_of (Root at) = IsRootForm
-form_of (Ask kind key at) = IsAskForm
-form_of (Prove query root_at) = IsProveForm
-form_of (Verify root query) = IsVerifyForm
+form_of (Ask (At question)) = IsAskForm (lead_of question)
+form_of (Ask (AtLast kind key)) = IsLastForm
+form_of (Prove question root_at) = IsProveForm (lead_of question)
+form_of (Verify root question) = IsVerifyForm (lead_of question)
 form_of (Expose root query root_at) = IsExposeForm
-form_of (Trace key at) = IsTraceForm
-form_of (ProveTrace key at root_at) = IsProveTraceForm
-form_of (VerifyTrace root key at) = IsVerifyTraceForm
-form_of (Range key from to) = IsRangeForm
-form_of (ProveRange key from to root_at) = IsProveRangeForm
-form_of (VerifyRange root key from to) = IsVerifyRangeForm
 form_of MakeLight = IsMakeLightForm
 form_of Light = IsLightForm
 
@@ -261,18 +294,24 @@ is_word word other = pointwise ◌==◌ word other
 abbrev trace_form : List (List ℕ) → Form
 trace_form [] = NoForm
 trace_form (word ∷ []) = NoForm
-trace_form (word ∷ second ∷ []) = IsTraceForm
+trace_form (word ∷ second ∷ []) = IsAskForm OfAncestors
 trace_form (word ∷ second ∷ third ∷ others) =
-    if is_word word (codes "prove") then IsProveTraceForm else IsVerifyTraceForm
+    if is_word word (codes "prove") then IsProveForm OfAncestors else IsVerifyForm OfAncestors
 
 -- by what follows the word `range`: a key and two blocks, or more, the first of which tells
 abbrev range_form : List (List ℕ) → Form
 range_form [] = NoForm
 range_form (word ∷ []) = NoForm
 range_form (word ∷ second ∷ []) = NoForm
-range_form (word ∷ second ∷ third ∷ []) = IsRangeForm
+range_form (word ∷ second ∷ third ∷ []) = IsAskForm OfBetween
 range_form (word ∷ second ∷ third ∷ fourth ∷ others) =
-    if is_word word (codes "prove") then IsProveRangeForm else IsVerifyRangeForm
+    if is_word word (codes "prove") then IsProveForm OfBetween else IsVerifyForm OfBetween
+
+-- by what follows a kind of question: a key, or a key and a block
+abbrev kind_form : List (List ℕ) → Form
+kind_form [] = NoForm
+kind_form (key ∷ []) = IsLastForm
+kind_form (key ∷ at ∷ others) = IsAskForm OfVersion
 
 -- by what follows the word `light`: nothing, or the word `make`
 abbrev light_form : List (List ℕ) → Form
@@ -291,19 +330,26 @@ form_by word others =
     else (if is_word word (codes "follow") then IsFollowForm
     else (if is_word word (codes "upgrade") then IsUpgradeForm
     else (if is_word word (codes "root") then IsRootForm
-    else (if is_word word (codes "prove") then IsProveForm
-    else (if is_word word (codes "verify") then IsVerifyForm
+    else (if is_word word (codes "prove") then IsProveForm OfVersion
+    else (if is_word word (codes "verify") then IsVerifyForm OfVersion
     else (if is_word word (codes "expose") then IsExposeForm
     else (if is_word word (codes "trace") then trace_form others
     else (if is_word word (codes "range") then range_form others
     else (if is_word word (codes "light") then light_form others
-    else IsAskForm))))))))))))))
+    else kind_form others))))))))))))))
 
-abbrev form_in : List (List ℕ) → Form
+abbrev pub form_in : List (List ℕ) → Form
 form_in [] = NoForm
 form_in (word ∷ others) = form_by word others
 
-form_is : (command : Command) → form_in (command_words command) ≡ form_of command
+-- a kind of question is none of the other words
+kind_is : (kind : Kind) (others : List (List ℕ))
+    → form_in (kind_word kind ∷ others) ≡ kind_form others
+kind_is Hist others = refl
+kind_is Back others = refl
+kind_is Fwd others = refl
+
+pub form_is : (command : Command) → form_in (command_words command) ≡ form_of command
 form_is (Scan query) = refl
 form_is (Fmt First) = refl
 form_is (Fmt Second) = refl
@@ -316,21 +362,17 @@ form_is Follow = refl
 form_is Upgrade = refl
 form_is (Root None) = refl
 form_is (Root (Some at)) = refl
-form_is (Ask Hist key None) = refl
-form_is (Ask Hist key (Some at)) = refl
-form_is (Ask Back key None) = refl
-form_is (Ask Back key (Some at)) = refl
-form_is (Ask Fwd key None) = refl
-form_is (Ask Fwd key (Some at)) = refl
-form_is (Prove query root_at) = refl
-form_is (Verify root query) = refl
+form_is (Ask (At (Version query))) = kind_is query.kind (query.key ∷ decimal query.at ∷ [])
+form_is (Ask (At (Ancestors key at))) = refl
+form_is (Ask (At (Between key from to))) = refl
+form_is (Ask (AtLast kind key)) = kind_is kind (key ∷ [])
+form_is (Prove (Version query) root_at) = refl
+form_is (Prove (Ancestors key at) root_at) = refl
+form_is (Prove (Between key from to) root_at) = refl
+form_is (Verify root (Version query)) = refl
+form_is (Verify root (Ancestors key at)) = refl
+form_is (Verify root (Between key from to)) = refl
 form_is (Expose root query root_at) = refl
-form_is (Trace key at) = refl
-form_is (ProveTrace key at root_at) = refl
-form_is (VerifyTrace root key at) = refl
-form_is (Range key from to) = refl
-form_is (ProveRange key from to root_at) = refl
-form_is (VerifyRange root key from to) = refl
 form_is MakeLight = refl
 form_is Light = refl
 
@@ -345,23 +387,15 @@ HasForm IsAppendForm command = command ≡ Append
 HasForm IsFollowForm command = command ≡ Follow
 HasForm IsUpgradeForm command = command ≡ Upgrade
 HasForm IsRootForm command = (at : Option ℕ) × (command ≡ Root at)
-HasForm IsAskForm command =
-    (kind : Kind) × (key : List ℕ) × (at : Option ℕ) × (command ≡ Ask kind key at)
-HasForm IsProveForm command = (query : Query) × (root_at : ℕ) × (command ≡ Prove query root_at)
-HasForm IsVerifyForm command = (root : Digest) × (query : Query) × (command ≡ Verify root query)
+HasForm (IsAskForm lead) command =
+    (question : Question) × (lead ≡ lead_of question) × (command ≡ Ask (At question))
+HasForm IsLastForm command = (kind : Kind) × (key : List ℕ) × (command ≡ Ask (AtLast kind key))
+HasForm (IsProveForm lead) command = (question : Question) × (root_at : ℕ)
+    × (lead ≡ lead_of question) × (command ≡ Prove question root_at)
+HasForm (IsVerifyForm lead) command = (root : Digest) × (question : Question)
+    × (lead ≡ lead_of question) × (command ≡ Verify root question)
 HasForm IsExposeForm command =
     (root : Digest) × (query : Query) × (root_at : ℕ) × (command ≡ Expose root query root_at)
-HasForm IsTraceForm command = (key : List ℕ) × (at : ℕ) × (command ≡ Trace key at)
-HasForm IsProveTraceForm command =
-    (key : List ℕ) × (at : ℕ) × (root_at : ℕ) × (command ≡ ProveTrace key at root_at)
-HasForm IsVerifyTraceForm command =
-    (root : Digest) × (key : List ℕ) × (at : ℕ) × (command ≡ VerifyTrace root key at)
-HasForm IsRangeForm command =
-    (key : List ℕ) × (from : ℕ) × (to : ℕ) × (command ≡ Range key from to)
-HasForm IsProveRangeForm command = (key : List ℕ) × (from : ℕ) × (to : ℕ) × (root_at : ℕ)
-    × (command ≡ ProveRange key from to root_at)
-HasForm IsVerifyRangeForm command = (root : Digest) × (key : List ℕ) × (from : ℕ) × (to : ℕ)
-    × (command ≡ VerifyRange root key from to)
 HasForm IsMakeLightForm command = command ≡ MakeLight
 HasForm IsLightForm command = command ≡ Light
 HasForm NoForm command = ⊥
@@ -376,16 +410,11 @@ has_form Append = refl
 has_form Follow = refl
 has_form Upgrade = refl
 has_form (Root at) = (at, refl)
-has_form (Ask kind key at) = (kind, key, at, refl)
-has_form (Prove query root_at) = (query, root_at, refl)
-has_form (Verify root query) = (root, query, refl)
+has_form (Ask (At question)) = (question, refl, refl)
+has_form (Ask (AtLast kind key)) = (kind, key, refl)
+has_form (Prove question root_at) = (question, root_at, refl, refl)
+has_form (Verify root question) = (root, question, refl, refl)
 has_form (Expose root query root_at) = (root, query, root_at, refl)
-has_form (Trace key at) = (key, at, refl)
-has_form (ProveTrace key at root_at) = (key, at, root_at, refl)
-has_form (VerifyTrace root key at) = (root, key, at, refl)
-has_form (Range key from to) = (key, from, to, refl)
-has_form (ProveRange key from to root_at) = (key, from, to, root_at, refl)
-has_form (VerifyRange root key from to) = (root, key, from, to, refl)
 has_form MakeLight = refl
 has_form Light = refl
 
@@ -410,27 +439,16 @@ one_of_form Follow b is = subst (AreOne Follow) (sym is) (λ is_a is_b same. ref
 one_of_form Upgrade b is = subst (AreOne Upgrade) (sym is) (λ is_a is_b same. refl)
 one_of_form (Root a) b (at, is) = subst (AreOne (Root a)) (sym is)
     (λ is_a is_b same. ap Root (one_root a at is_a is_b same))
-one_of_form (Ask k x a) b (kind, key, at, is) = subst (AreOne (Ask k x a)) (sym is)
-    (λ is_a is_b same. one_ask k kind x key a at is_a.1 is_b.1 same)
-one_of_form (Prove a m) b (q, n, is) = subst (AreOne (Prove a m)) (sym is)
-    (λ is_a is_b same. one_prove a q m n is_a is_b same)
-one_of_form (Verify m a) b (n, q, is) = subst (AreOne (Verify m a)) (sym is)
-    (λ is_a is_b same. one_verify m n a q is_a is_b same)
+one_of_form (Ask (At a)) b (q, leads, is) = subst (AreOne (Ask (At a))) (sym is)
+    (λ is_a is_b same. one_ask a q leads is_a is_b same)
+one_of_form (Ask (AtLast k x)) b (l, y, is) = subst (AreOne (Ask (AtLast k x))) (sym is)
+    (λ is_a is_b same. one_last k l x y same)
+one_of_form (Prove a m) b (q, n, leads, is) = subst (AreOne (Prove a m)) (sym is)
+    (λ is_a is_b same. one_prove a q m n leads is_a is_b same)
+one_of_form (Verify m a) b (n, q, leads, is) = subst (AreOne (Verify m a)) (sym is)
+    (λ is_a is_b same. one_verify m n a q leads is_a is_b same)
 one_of_form (Expose m a i) b (n, q, j, is) = subst (AreOne (Expose m a i)) (sym is)
     (λ is_a is_b same. one_expose m n a q i j is_a is_b same)
-one_of_form (Trace x i) b (y, j, is) = subst (AreOne (Trace x i)) (sym is)
-    (λ is_a is_b same. one_trace x y i j is_a is_b same)
-one_of_form (ProveTrace x i m) b (y, j, n, is) = subst (AreOne (ProveTrace x i m)) (sym is)
-    (λ is_a is_b same. one_prove_trace x y i j m n is_a is_b same)
-one_of_form (VerifyTrace m x i) b (n, y, j, is) = subst (AreOne (VerifyTrace m x i)) (sym is)
-    (λ is_a is_b same. one_verify_trace m n x y i j is_a is_b same)
-one_of_form (Range x i m) b (y, j, n, is) = subst (AreOne (Range x i m)) (sym is)
-    (λ is_a is_b same. one_range x y i j m n is_a is_b same)
-one_of_form (ProveRange x i m r) b (y, j, n, s, is) = subst (AreOne (ProveRange x i m r)) (sym is)
-    (λ is_a is_b same. one_prove_range x y i j m n r s is_a is_b same)
-one_of_form (VerifyRange r x i m) b (s, y, j, n, is) =
-    subst (AreOne (VerifyRange r x i m)) (sym is)
-    (λ is_a is_b same. one_verify_range r s x y i j m n is_a is_b same)
 one_of_form MakeLight b is = subst (AreOne MakeLight) (sym is) (λ is_a is_b same. refl)
 one_of_form Light b is = subst (AreOne Light) (sym is) (λ is_a is_b same. refl)
 

@@ -1,5 +1,7 @@
 -- The words of commands, and what it means that words are a command.
-use Rattle.std.specs.Prelude.{◌≡◌, ℕ, ◌<◌, ◌≤◌, ◌^◌, Bool, true, false, ◌&&◌, ◌||◌, ◌==◌, nat_le, List, [], ◌∷◌, length, Option, Some, None, codes, decimal}
+use Rattle.std.specs.Prelude.{◌≡◌, ℕ, ◌<◌, ◌≤◌, ◌^◌, Bool, ◌&&◌, ◌||◌}
+use Rattle.std.specs.Prelude.{◌==◌, nat_le, false, List, [], ◌∷◌, ◌++◌, length, Option, Some, None}
+use Rattle.std.specs.Prelude.{codes, decimal}
 use Rattle.hex.specs.Hex.{IsBytes, encode_lower}
 use Rattle.lc_base.specs.KeyBytes.{IsKey}
 use Rattle.lc_base.specs.declared.answer.Kind.{Kind}
@@ -15,10 +17,11 @@ use Rattle.cli_words.specs.declared.words.Generation.{Generation}
 use Rattle.cli_words.specs.declared.words.Command.{Command}
 use Rattle.cli_words.specs.declared.words.Command.TheVariants.{Scan, Fmt, Pack, Gen, Load, Append}
 use Rattle.cli_words.specs.declared.words.Command.TheVariants.{Follow, Upgrade, Root, Ask, Prove}
-use Rattle.cli_words.specs.declared.words.Command.TheVariants.{Verify, Expose}
-use Rattle.cli_words.specs.declared.words.Command.TheVariants.{Trace, ProveTrace, VerifyTrace}
-use Rattle.cli_words.specs.declared.words.Command.TheVariants.{Range, ProveRange, VerifyRange}
-use Rattle.cli_words.specs.declared.words.Command.TheVariants.{MakeLight, Light}
+use Rattle.cli_words.specs.declared.words.Command.TheVariants.{Verify, Expose, MakeLight, Light}
+use Rattle.cli_words.specs.declared.question.Question.{Question}
+use Rattle.cli_words.specs.declared.question.Question.TheVariants.{Version, Ancestors, Between}
+use Rattle.cli_words.specs.declared.question.Asked.{Asked}
+use Rattle.cli_words.specs.declared.question.Asked.TheVariants.{At, AtLast}
 
 -- The word for a kind of question.
 abbrev pub kind_word : Kind → List ℕ
@@ -64,11 +67,32 @@ pub record IsGeneration (generation : Generation) : Type 0 where
   pub count : IsCount generation.blocks
   pub seed_fits : generation.seed < 2 ^ 32
 
--- The words of a question over the log: KIND KEY, or KIND KEY BLOCK, BLOCK in decimal digits
--- without a leading zero.
-abbrev pub ask_words : Kind → List ℕ → Option ℕ → List (List ℕ)
-ask_words kind key None = kind_word kind ∷ key ∷ []
-ask_words kind key (Some at) = kind_word kind ∷ key ∷ decimal at ∷ []
+-- The word with which the forms of a kind of question begin; a question about a version has none.
+abbrev pub lead_words : Question → List (List ℕ)
+lead_words (Version query) = []
+lead_words (Ancestors key at) = codes "trace" ∷ []
+lead_words (Between key from to) = codes "range" ∷ []
+
+-- The words that name what a question is about: KIND KEY BLOCK, KEY BLOCK or KEY FROM TO, its
+-- blocks in decimal digits without a leading zero.
+abbrev pub subject_words : Question → List (List ℕ)
+subject_words (Version query) = query_words query
+subject_words (Ancestors key at) = key ∷ decimal at ∷ []
+subject_words (Between key from to) = key ∷ decimal from ∷ decimal to ∷ []
+
+-- The words of a question over the log: KIND KEY BLOCK, trace KEY BLOCK or range KEY FROM TO.
+abbrev pub question_words : Question → List (List ℕ)
+question_words question = lead_words question ++ subject_words question
+
+-- The words of a form with a verb and its arguments, about a question: VERB ARGS KIND KEY BLOCK,
+-- trace VERB ARGS KEY BLOCK or range VERB ARGS KEY FROM TO.
+abbrev pub form_words : List ℕ → List (List ℕ) → Question → List (List ℕ)
+form_words verb args question = lead_words question ++ verb ∷ args ++ subject_words question
+
+-- The words of what is asked of the log: those of a question, or KIND KEY.
+abbrev pub ask_words : Asked → List (List ℕ)
+ask_words (At question) = question_words question
+ask_words (AtLast kind key) = kind_word kind ∷ key ∷ []
 
 -- The words of the command for a root: root, or root BLOCK, BLOCK in decimal digits without a
 -- leading zero.
@@ -76,55 +100,20 @@ abbrev pub root_words : Option ℕ → List (List ℕ)
 root_words None = codes "root" ∷ []
 root_words (Some at) = codes "root" ∷ decimal at ∷ []
 
--- The words of the command for a proof: prove KIND KEY BLOCK ROOTBLOCK, both numbers in decimal
+-- The words of the command for a proof: the form of the verb prove, and then ROOTBLOCK, in decimal
 -- digits without a leading zero.
-abbrev pub prove_words : Query → ℕ → List (List ℕ)
-prove_words query root_at =
-    codes "prove" ∷ kind_word query.kind ∷ query.key ∷ decimal query.at ∷ decimal root_at ∷ []
+abbrev pub prove_words : Question → ℕ → List (List ℕ)
+prove_words question root_at = form_words (codes "prove") [] question ++ decimal root_at ∷ []
 
--- The words of the command that verifies a proof: verify ROOT KIND KEY BLOCK, ROOT in lower-case
--- hex, BLOCK in decimal digits without a leading zero.
-abbrev pub verify_words : Digest → Query → List (List ℕ)
-verify_words root query = codes "verify" ∷ encode_lower root.0 ∷ query_words query
+-- The words of the command that verifies a proof: the form of the verb verify, with ROOT in
+-- lower-case hex.
+abbrev pub verify_words : Digest → Question → List (List ℕ)
+verify_words root question = form_words (codes "verify") (encode_lower root.0 ∷ []) question
 
 -- The words of the command for the first clash with a proof: expose ROOT KIND KEY BLOCK ROOTBLOCK,
 -- ROOT in lower-case hex, both numbers in decimal digits without a leading zero.
 abbrev pub expose_words : Digest → Query → ℕ → List (List ℕ)
 expose_words root query root_at = codes "expose" ∷ encode_lower root.0 ∷ kind_word query.kind ∷ query.key ∷ decimal query.at ∷ decimal root_at ∷ []
-
--- The words of the command for the ancestors of a version: trace KEY BLOCK, BLOCK in decimal digits
--- without a leading zero.
-abbrev pub trace_words : List ℕ → ℕ → List (List ℕ)
-trace_words key at = codes "trace" ∷ key ∷ decimal at ∷ []
-
--- The words of the command for a proof of them: trace prove KEY BLOCK ROOTBLOCK, both numbers in
--- decimal digits without a leading zero.
-abbrev pub prove_trace_words : List ℕ → ℕ → ℕ → List (List ℕ)
-prove_trace_words key at root_at =
-    codes "trace" ∷ codes "prove" ∷ key ∷ decimal at ∷ decimal root_at ∷ []
-
--- The words of the command that verifies such a proof: trace verify ROOT KEY BLOCK, ROOT in
--- lower-case hex, BLOCK in decimal digits without a leading zero.
-abbrev pub verify_trace_words : Digest → List ℕ → ℕ → List (List ℕ)
-verify_trace_words root key at =
-    codes "trace" ∷ codes "verify" ∷ encode_lower root.0 ∷ key ∷ decimal at ∷ []
-
--- The words of the command for all versions between two blocks: range KEY FROM TO, both numbers in
--- decimal digits without a leading zero.
-abbrev pub range_words : List ℕ → ℕ → ℕ → List (List ℕ)
-range_words key from to = codes "range" ∷ key ∷ decimal from ∷ decimal to ∷ []
-
--- The words of the command for a proof of them: range prove KEY FROM TO ROOTBLOCK, all numbers in
--- decimal digits without a leading zero.
-abbrev pub prove_range_words : List ℕ → ℕ → ℕ → ℕ → List (List ℕ)
-prove_range_words key from to root_at =
-    codes "range" ∷ codes "prove" ∷ key ∷ decimal from ∷ decimal to ∷ decimal root_at ∷ []
-
--- The words of the command that verifies such a proof: range verify ROOT KEY FROM TO, ROOT in
--- lower-case hex, both numbers in decimal digits without a leading zero.
-abbrev pub verify_range_words : Digest → List ℕ → ℕ → ℕ → List (List ℕ)
-verify_range_words root key from to =
-    codes "range" ∷ codes "verify" ∷ encode_lower root.0 ∷ key ∷ decimal from ∷ decimal to ∷ []
 
 -- The words of the command that prints a light file: light make.
 abbrev pub make_light_words : List (List ℕ)
@@ -139,12 +128,24 @@ pub record AreBlocks (from to : ℕ) : Type 0 where
   pub in_order : from ≤ to
   pub last_fits : to < 2 ^ 32
 
+-- A question that can be asked: about a key, at block numbers of 32 bits, of which the first isn't
+-- after the last one.
+abbrev pub IsQuestion : Question → Type 0
+IsQuestion (Version query) = IsQuery query
+IsQuestion (Ancestors key at) = IsKey key × (at < 2 ^ 32)
+IsQuestion (Between key from to) = IsKey key × AreBlocks from to
+
+-- What can be asked of the log: such a question, or one about a key.
+abbrev pub IsAsked : Asked → Type 0
+IsAsked (At question) = IsQuestion question
+IsAsked (AtLast kind key) = IsKey key
+
 -- A root that words can spell: 32 bytes.
 pub record IsRootGiven (root : Digest) : Type 0 where
   pub length_is : length root.0 ≡ 32
   pub bytes : IsBytes root.0
 
--- The block number of a question over the log has 32 bits, if it has one.
+-- The block number of a command for a root has 32 bits, if it has one.
 abbrev pub Fits : Option ℕ → Type 0
 Fits None = Unit {0}
 Fits (Some at) = at < 2 ^ 32
@@ -160,22 +161,15 @@ command_words Append = codes "append" ∷ []
 command_words Follow = codes "follow" ∷ []
 command_words Upgrade = codes "upgrade" ∷ []
 command_words (Root at) = root_words at
-command_words (Ask kind key at) = ask_words kind key at
-command_words (Prove query root_at) = prove_words query root_at
-command_words (Verify root query) = verify_words root query
+command_words (Ask asked) = ask_words asked
+command_words (Prove question root_at) = prove_words question root_at
+command_words (Verify root question) = verify_words root question
 command_words (Expose root query root_at) = expose_words root query root_at
-command_words (Trace key at) = trace_words key at
-command_words (ProveTrace key at root_at) = prove_trace_words key at root_at
-command_words (VerifyTrace root key at) = verify_trace_words root key at
-command_words (Range key from to) = range_words key from to
-command_words (ProveRange key from to root_at) = prove_range_words key from to root_at
-command_words (VerifyRange root key from to) = verify_range_words root key from to
 command_words MakeLight = make_light_words
 command_words Light = light_words
 
--- A command that words can spell: its keys are keys, its numbers have 32 bits, its roots have 32
--- bytes, a generation makes a number of blocks that may be made at once, and the first block of a
--- range isn't after the last one.
+-- A command that words can spell: its questions can be asked, its numbers have 32 bits, its roots
+-- have 32 bytes, and a generation makes a number of blocks that may be made at once.
 abbrev pub CanBeGiven : Command → Type 0
 CanBeGiven (Scan query) = IsQuery query
 CanBeGiven (Fmt edition) = Unit {0}
@@ -186,16 +180,10 @@ CanBeGiven Append = Unit {0}
 CanBeGiven Follow = Unit {0}
 CanBeGiven Upgrade = Unit {0}
 CanBeGiven (Root at) = Fits at
-CanBeGiven (Ask kind key at) = IsKey key × Fits at
-CanBeGiven (Prove query root_at) = IsQuery query × (root_at < 2 ^ 32)
-CanBeGiven (Verify root query) = IsRootGiven root × IsQuery query
+CanBeGiven (Ask asked) = IsAsked asked
+CanBeGiven (Prove question root_at) = IsQuestion question × (root_at < 2 ^ 32)
+CanBeGiven (Verify root question) = IsRootGiven root × IsQuestion question
 CanBeGiven (Expose root query root_at) = IsRootGiven root × IsQuery query × (root_at < 2 ^ 32)
-CanBeGiven (Trace key at) = IsKey key × (at < 2 ^ 32)
-CanBeGiven (ProveTrace key at root_at) = IsKey key × (at < 2 ^ 32) × (root_at < 2 ^ 32)
-CanBeGiven (VerifyTrace root key at) = IsRootGiven root × IsKey key × (at < 2 ^ 32)
-CanBeGiven (Range key from to) = IsKey key × AreBlocks from to
-CanBeGiven (ProveRange key from to root_at) = IsKey key × AreBlocks from to × (root_at < 2 ^ 32)
-CanBeGiven (VerifyRange root key from to) = IsRootGiven root × IsKey key × AreBlocks from to
 CanBeGiven MakeLight = Unit {0}
 CanBeGiven Light = Unit {0}
 
@@ -237,76 +225,69 @@ IsGenerationOf word words (Some generation) =
     IsGeneration generation × (words ≡ generation_words word generation)
 IsGenerationOf word words None = (generation : Generation) → IsGeneration generation → words ≡ generation_words word generation → ⊥
 
--- The command of a question over the log; None if the words are not those of one.
-abbrev pub IsAsk : List (List ℕ) → Option Command → Type 0
-IsAsk words (Some command) = CanBeGiven command × (words ≡ command_words command)
-IsAsk words None = (kind : Kind) (key : List ℕ) (at : Option ℕ) → IsKey key → Fits at → words ≡ ask_words kind key at → ⊥
+-- The question that begins with these words and is about what the others name; None if there is
+-- none.
+abbrev pub IsNamedBy : List (List ℕ) → List (List ℕ) → Option Question → Type 0
+IsNamedBy lead subject (Some question) = IsQuestion question × (lead ≡ lead_words question)
+    × (subject ≡ subject_words question)
+IsNamedBy lead subject None = (question : Question) → IsQuestion question
+    → lead ≡ lead_words question → subject ≡ subject_words question → ⊥
+
+-- What is asked of the log; None if the words are not those of a question over it.
+abbrev pub IsAsk : List (List ℕ) → Option Asked → Type 0
+IsAsk words (Some asked) = IsAsked asked × (words ≡ ask_words asked)
+IsAsk words None = (asked : Asked) → IsAsked asked → words ≡ ask_words asked → ⊥
 
 -- The command for a root; None if the words are not those of one.
 abbrev pub IsRoot : List (List ℕ) → Option Command → Type 0
 IsRoot words (Some command) = CanBeGiven command × (words ≡ command_words command)
 IsRoot words None = (at : Option ℕ) → Fits at → words ≡ root_words at → ⊥
 
+-- The command for a proof about a question, for the root at the block that a text spells; None if
+-- there is no question, or the text spells none.
+abbrev pub IsProveAt : Option Question → List ℕ → Option Command → Type 0
+IsProveAt (Some question) text (Some command) = (root_at : ℕ) × (root_at < 2 ^ 32)
+    × (text ≡ decimal root_at) × (command ≡ Prove question root_at)
+IsProveAt (Some question) text None =
+    (root_at : ℕ) → root_at < 2 ^ 32 → text ≡ decimal root_at → ⊥
+IsProveAt None text command = command ≡ None
+
 -- The command for a proof; None if the words are not those of one.
 abbrev pub IsProve : List (List ℕ) → Option Command → Type 0
 IsProve words (Some command) = CanBeGiven command × (words ≡ command_words command)
-IsProve words None = (query : Query) (root_at : ℕ) → IsQuery query → root_at < 2 ^ 32 → words ≡ prove_words query root_at → ⊥
+IsProve words None = (question : Question) (root_at : ℕ) → IsQuestion question → root_at < 2 ^ 32
+    → words ≡ prove_words question root_at → ⊥
+
+-- The command that verifies a proof about a question under the root that a text spells; None if
+-- there is no question, or the text spells none.
+abbrev pub IsVerifyUnder : List ℕ → Option Question → Option Command → Type 0
+IsVerifyUnder text (Some question) (Some command) = (root : Digest) × IsRootGiven root
+    × (text ≡ encode_lower root.0) × (command ≡ Verify root question)
+IsVerifyUnder text (Some question) None =
+    (root : Digest) → IsRootGiven root → text ≡ encode_lower root.0 → ⊥
+IsVerifyUnder text None command = command ≡ None
 
 -- The command that verifies a proof; None if the words are not those of one.
 abbrev pub IsVerify : List (List ℕ) → Option Command → Type 0
 IsVerify words (Some command) = CanBeGiven command × (words ≡ command_words command)
-IsVerify words None = (root : Digest) (query : Query) → IsRootGiven root → IsQuery query → words ≡ verify_words root query → ⊥
+IsVerify words None = (root : Digest) (question : Question) → IsRootGiven root
+    → IsQuestion question → words ≡ verify_words root question → ⊥
 
 -- The command for the first clash with a proof; None if the words are not those of one.
 abbrev pub IsExpose : List (List ℕ) → Option Command → Type 0
 IsExpose words (Some command) = CanBeGiven command × (words ≡ command_words command)
 IsExpose words None = (root : Digest) (query : Query) (root_at : ℕ) → IsRootGiven root → IsQuery query → root_at < 2 ^ 32 → words ≡ expose_words root query root_at → ⊥
 
--- The command for the ancestors of a version; None if the words are not those of one.
-abbrev pub IsTrace : List (List ℕ) → Option Command → Type 0
-IsTrace words (Some command) = CanBeGiven command × (words ≡ command_words command)
-IsTrace words None =
-    (key : List ℕ) (at : ℕ) → IsKey key → at < 2 ^ 32 → words ≡ trace_words key at → ⊥
-
--- The command for a proof of them; None if the words are not those of one.
-abbrev pub IsProveTrace : List (List ℕ) → Option Command → Type 0
-IsProveTrace words (Some command) = CanBeGiven command × (words ≡ command_words command)
-IsProveTrace words None = (key : List ℕ) (at root_at : ℕ) → IsKey key → at < 2 ^ 32
-    → root_at < 2 ^ 32 → words ≡ prove_trace_words key at root_at → ⊥
-
--- The command that verifies such a proof; None if the words are not those of one.
-abbrev pub IsVerifyTrace : List (List ℕ) → Option Command → Type 0
-IsVerifyTrace words (Some command) = CanBeGiven command × (words ≡ command_words command)
-IsVerifyTrace words None = (root : Digest) (key : List ℕ) (at : ℕ) → IsRootGiven root → IsKey key
-    → at < 2 ^ 32 → words ≡ verify_trace_words root key at → ⊥
-
--- The command for all versions between two blocks; None if the words are not those of one.
-abbrev pub IsRange : List (List ℕ) → Option Command → Type 0
-IsRange words (Some command) = CanBeGiven command × (words ≡ command_words command)
-IsRange words None = (key : List ℕ) (from to : ℕ) → IsKey key → AreBlocks from to
-    → words ≡ range_words key from to → ⊥
-
--- The command for a proof of them; None if the words are not those of one.
-abbrev pub IsProveRange : List (List ℕ) → Option Command → Type 0
-IsProveRange words (Some command) = CanBeGiven command × (words ≡ command_words command)
-IsProveRange words None = (key : List ℕ) (from to root_at : ℕ) → IsKey key → AreBlocks from to
-    → root_at < 2 ^ 32 → words ≡ prove_range_words key from to root_at → ⊥
-
--- The command that verifies such a proof; None if the words are not those of one.
-abbrev pub IsVerifyRange : List (List ℕ) → Option Command → Type 0
-IsVerifyRange words (Some command) = CanBeGiven command × (words ≡ command_words command)
-IsVerifyRange words None = (root : Digest) (key : List ℕ) (from to : ℕ) → IsRootGiven root
-    → IsKey key → AreBlocks from to → words ≡ verify_range_words root key from to → ⊥
-
 -- The command of a light file; None if the words are not those of one.
 abbrev pub IsLight : List (List ℕ) → Option Command → Type 0
 IsLight words (Some command) = CanBeGiven command × (words ≡ command_words command)
 IsLight words None = (words ≡ make_light_words → ⊥) × (words ≡ light_words → ⊥)
 
--- Whether this is the only word.
-abbrev pub IsAlone : List ℕ → List (List ℕ) → Bool → Type 0
-IsAlone word words true = words ≡ word ∷ []
-IsAlone word words false = words ≡ word ∷ [] → ⊥
+-- The command that is a word alone; None if the words are not one of these.
+abbrev pub IsAlone : List (List ℕ) → Option Command → Type 0
+IsAlone words (Some command) = CanBeGiven command × (words ≡ command_words command)
+IsAlone words None = (words ≡ command_words Append → ⊥) × (words ≡ command_words Follow → ⊥)
+    × (words ≡ command_words Upgrade → ⊥)
 
 -- ---- single words
 

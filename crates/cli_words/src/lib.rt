@@ -5,11 +5,11 @@ mod formatting;
 mod lighting;
 mod packing;
 mod proving;
+mod question;
 mod questions;
-mod ranging;
 mod single;
-mod tracing;
 mod words;
 
+pub use question::{Asked, Question};
 pub use single::kind_word;
 pub use words::{BlockVersion, Command, Edition, Generation, MAX_GENERATED_BLOCKS, command_of};

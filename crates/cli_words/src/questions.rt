@@ -1,9 +1,10 @@
-//! The words of questions about a block: over the input, and over the log.
+//! The words of questions: over the input, and over the log.
 
-ghost use Rattle.std.specs.Prelude.{[], ◌∷◌, map, string_bytes};
-ghost use Rattle.cli_words.specs.Words.{IsQueryOf, IsScan, IsAsk, IsRoot};
+ghost use Rattle.std.specs.Prelude.{[], ◌∷◌, map, string_bytes, codes};
+ghost use Rattle.cli_words.specs.Words.{IsQueryOf, IsNamedBy, IsScan, IsAsk, IsRoot};
 
-use crate::single::{is_text, key_of, kind_of, number_of};
+use crate::question::{Asked, Question};
+use crate::single::{blocks_of, is_text, key_of, kind_of, number_of};
 use crate::words::Command;
 use lc_base::Query;
 
@@ -15,6 +16,38 @@ pub(crate) fn query_of(kind: &str, key: &str, at: &str) -> Option<Query>
     let key = key_of(key)?;
     match number_of(at) {
         Some(at) => Some(Query { kind, key, at }),
+        None => None,
+    }
+}
+
+/// The question about a version that the words KIND, KEY and BLOCK name.
+pub(crate) fn version_of(kind: &str, key: &str, at: &str) -> Option<Question>
+    ensures { IsNamedBy [] (kind.now ∷ key.now ∷ at.now ∷ []) result }
+{
+    match query_of(kind, key, at) {
+        Some(query) => Some(Question::Version(query)),
+        None => None,
+    }
+}
+
+/// The question about ancestors that the words KEY and BLOCK name.
+pub(crate) fn ancestors_of(key: &str, at: &str) -> Option<Question>
+    ensures { IsNamedBy (codes "trace" ∷ []) (key.now ∷ at.now ∷ []) result }
+{
+    let key = key_of(key)?;
+    match number_of(at) {
+        Some(at) => Some(Question::Ancestors { key, at }),
+        None => None,
+    }
+}
+
+/// The question about versions between two blocks that the words KEY, FROM and TO name.
+pub(crate) fn between_of(key: &str, from: &str, to: &str) -> Option<Question>
+    ensures { IsNamedBy (codes "range" ∷ []) (key.now ∷ from.now ∷ to.now ∷ []) result }
+{
+    let key = key_of(key)?;
+    match blocks_of(from, to) {
+        Some((from, to)) => Some(Question::Between { key, from, to }),
         None => None,
     }
 }
@@ -32,29 +65,32 @@ pub(crate) fn scan_of(words: &[String]) -> Option<Query>
     }
 }
 
-/// The command `KIND KEY` or `KIND KEY BLOCK`; `None` exactly if the words are no such command.
-pub(crate) fn ask_of(words: &[String]) -> Option<Command>
+/// What the command `KIND KEY`, `KIND KEY BLOCK`, `trace KEY BLOCK` or `range KEY FROM TO` asks;
+/// `None` exactly if the words are no such command.
+pub(crate) fn ask_of(words: &[String]) -> Option<Asked>
     ensures { IsAsk (map string_bytes words.now) result }
 {
     match words {
         [kind, key] => {
             let kind = kind_of(kind.as_str())?;
-            let key = key_of(key.as_str())?;
-            Some(Command::Ask {
-                kind,
-                key,
-                at: None,
-            })
+            match key_of(key.as_str()) {
+                Some(key) => Some(Asked::AtLast { kind, key }),
+                None => None,
+            }
         }
-        [kind, key, at] => {
-            let kind = kind_of(kind.as_str())?;
-            let key = key_of(key.as_str())?;
-            match number_of(at.as_str()) {
-                Some(at) => Some(Command::Ask {
-                    kind,
-                    key,
-                    at: Some(at),
-                }),
+        [word, key, at] if is_text(word.as_str(), "trace") => {
+            match ancestors_of(key.as_str(), at.as_str()) {
+                Some(question) => Some(Asked::At(question)),
+                None => None,
+            }
+        }
+        [kind, key, at] => match version_of(kind.as_str(), key.as_str(), at.as_str()) {
+            Some(question) => Some(Asked::At(question)),
+            None => None,
+        },
+        [word, key, from, to] if is_text(word.as_str(), "range") => {
+            match between_of(key.as_str(), from.as_str(), to.as_str()) {
+                Some(question) => Some(Asked::At(question)),
                 None => None,
             }
         }

@@ -1,17 +1,16 @@
 //! Parsing a command: no command shares its words with another, so the order of the tests is free.
 
-ghost use Rattle.std.specs.Prelude.{map, string_bytes, IfSome};
+ghost use Rattle.std.specs.Prelude.{[], ◌∷◌, map, string_bytes, IfSome};
 ghost use Rattle.cli_words.specs.Words.{CanBeGiven, IsCommand, IsOneCommand, IsGenerationOf, IsAlone};
 
 use crate::formatting::fmt_of;
 use crate::lighting::light_of;
 use crate::packing::pack_of;
 use crate::proving::{expose_of, prove_of, verify_of};
+use crate::question::{Asked, Question};
 use crate::questions::{ask_of, root_of, scan_of};
-use crate::ranging::{prove_range_of, range_of, verify_range_of};
 use crate::single::{count_of, is_text, number_of};
-use crate::tracing::{prove_trace_of, trace_of, verify_trace_of};
-use lc_base::{Digest, Key, Kind, Query};
+use lc_base::{Digest, Query};
 
 /// The greatest number of blocks that `gen` and `load` make.
 pub const MAX_GENERATED_BLOCKS: u32 = 100_000;
@@ -68,24 +67,22 @@ pub enum Command {
     /// `root` or `root BLOCK`: print the root at a block of the log, which is the last one if no
     /// BLOCK is named.
     Root(Option<u32>),
-    /// `KIND KEY` or `KIND KEY BLOCK`: answer a question over the blocks of the log, up to BLOCK or
-    /// else to the last one.
-    Ask {
-        kind: Kind,
-        key: Key,
-        at: Option<u32>,
-    },
-    /// `prove KIND KEY BLOCK ROOTBLOCK`: print a proof of the answer to a question over the blocks
-    /// of the log, for one who has the root at ROOTBLOCK.
+    /// `KIND KEY`, `KIND KEY BLOCK`, `trace KEY BLOCK` or `range KEY FROM TO`: print the answer, the
+    /// ancestors or the versions of a question over the blocks of the log.
+    Ask(Asked),
+    /// `prove KIND KEY BLOCK ROOTBLOCK`, `trace prove KEY BLOCK ROOTBLOCK` or
+    /// `range prove KEY FROM TO ROOTBLOCK`: print a proof of them, for one who has the root at
+    /// ROOTBLOCK.
     Prove {
-        query: Query,
+        question: Question,
         root_at: u32,
     },
-    /// `verify ROOT KIND KEY BLOCK`: check the proof that the input is, in hex, and print its
-    /// answer.
+    /// `verify ROOT KIND KEY BLOCK`, `trace verify ROOT KEY BLOCK` or
+    /// `range verify ROOT KEY FROM TO`: check the proof that the input is, in hex, and print what it
+    /// shows.
     Verify {
         root: Digest,
-        query: Query,
+        question: Question,
     },
     /// `expose ROOT KIND KEY BLOCK ROOTBLOCK`: print the first two texts, one of the proof that the
     /// input is and one of the log up to ROOTBLOCK, which differ and have one digest.
@@ -93,48 +90,6 @@ pub enum Command {
         root: Digest,
         query: Query,
         root_at: u32,
-    },
-    /// `trace KEY BLOCK`: print all ancestors of the last version of a key up to a block of the log.
-    Trace {
-        key: Key,
-        at: u32,
-    },
-    /// `trace prove KEY BLOCK ROOTBLOCK`: print a proof of them, for one who has the root at
-    /// ROOTBLOCK.
-    ProveTrace {
-        key: Key,
-        at: u32,
-        root_at: u32,
-    },
-    /// `trace verify ROOT KEY BLOCK`: check the proof that the input is, in hex, and print the
-    /// ancestors that it shows.
-    VerifyTrace {
-        root: Digest,
-        key: Key,
-        at: u32,
-    },
-    /// `range KEY FROM TO`: print all versions of a key between two blocks of the log, both
-    /// included; FROM is at most TO.
-    Range {
-        key: Key,
-        from: u32,
-        to: u32,
-    },
-    /// `range prove KEY FROM TO ROOTBLOCK`: print a proof of them, for one who has the root at
-    /// ROOTBLOCK.
-    ProveRange {
-        key: Key,
-        from: u32,
-        to: u32,
-        root_at: u32,
-    },
-    /// `range verify ROOT KEY FROM TO`: check the proof that the input is, in hex, and print the
-    /// versions that it shows.
-    VerifyRange {
-        root: Digest,
-        key: Key,
-        from: u32,
-        to: u32,
     },
     /// `light make`: print the light file of the log: of each block its digest, and the root at it.
     MakeLight,
@@ -162,18 +117,25 @@ fn generation_of(words: &[String], word: &str) -> Option<Generation>
     }
 }
 
-/// Whether this is the only word.
-fn is_alone(words: &[String], word: &str) -> bool
-    ensures { IsAlone word.now (map string_bytes words.now) result }
+/// The command that this word is; `None` exactly if it is none that is a word alone.
+fn command_alone(word: &str) -> Option<Command>
+    ensures { IsAlone (word.now ∷ []) result }
+{
+    match word {
+        "append" => Some(Command::Append),
+        "follow" => Some(Command::Follow),
+        "upgrade" => Some(Command::Upgrade),
+        _ => None,
+    }
+}
+
+/// The command `append`, `follow` or `upgrade`; `None` exactly if the words are no such command.
+fn alone_of(words: &[String]) -> Option<Command>
+    ensures { IsAlone (map string_bytes words.now) result }
 {
     match words {
-        [only] => {
-            if !is_text(only.as_str(), word) {
-                return false;
-            }
-            true
-        }
-        _ => false,
+        [only] => command_alone(only.as_str()),
+        _ => None,
     }
 }
 
@@ -194,14 +156,8 @@ fn parse_command(words: &[String]) -> Option<Command>
     if let Some(version) = pack_of(words) {
         return Some(Command::Pack(version));
     }
-    if is_alone(words, "append") {
-        return Some(Command::Append);
-    }
-    if is_alone(words, "follow") {
-        return Some(Command::Follow);
-    }
-    if is_alone(words, "upgrade") {
-        return Some(Command::Upgrade);
+    if let Some(command) = alone_of(words) {
+        return Some(command);
     }
     if let Some(generation) = generation_of(words, "gen") {
         return Some(Command::Gen(generation));
@@ -221,29 +177,11 @@ fn parse_command(words: &[String]) -> Option<Command>
     if let Some(command) = expose_of(words) {
         return Some(command);
     }
-    if let Some(command) = trace_of(words) {
-        return Some(command);
-    }
-    if let Some(command) = prove_trace_of(words) {
-        return Some(command);
-    }
-    if let Some(command) = verify_trace_of(words) {
-        return Some(command);
-    }
-    if let Some(command) = range_of(words) {
-        return Some(command);
-    }
-    if let Some(command) = prove_range_of(words) {
-        return Some(command);
-    }
-    if let Some(command) = verify_range_of(words) {
-        return Some(command);
-    }
     if let Some(command) = light_of(words) {
         return Some(command);
     }
-    match root_of(words) {
-        Some(command) => Some(command),
-        None => ask_of(words),
+    if let Some(asked) = ask_of(words) {
+        return Some(Command::Ask(asked));
     }
+    root_of(words)
 }

@@ -1,4 +1,3 @@
 pub mod Copying
+pub mod Read
 pub mod Verified
-pub mod Traced
-pub mod Ranged

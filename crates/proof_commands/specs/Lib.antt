@@ -1,7 +1,6 @@
 pub mod Lines
+pub mod TraceLines
+pub mod RangeLines
+pub mod Refusing
 pub mod Verifying
 pub mod Copying
-pub mod TraceLines
-pub mod TraceVerifying
-pub mod RangeLines
-pub mod RangeVerifying

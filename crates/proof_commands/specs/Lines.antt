@@ -1,5 +1,5 @@
--- The line that is printed for a proof that isn't accepted.
-use Rattle.std.specs.Prelude.{ℕ, List, [], ◌∷◌, ◌++◌, codes, decimal}
+-- The words that are printed for a proof of an answer that isn't accepted.
+use Rattle.std.specs.Prelude.{ℕ, List, ◌++◌, codes, decimal}
 use Rattle.hex.specs.Hex.{encode_lower}
 use Rattle.proof_checks.specs.declared.reject.Reject.{Reject}
 use Rattle.proof_checks.specs.declared.reject.Reject.TheVariants as rejects
@@ -14,7 +14,3 @@ reject_text (rejects.LinkDiffers step computed) = codes "link " ++ decimal step 
 reject_text (rejects.PathShape step) = codes "path " ++ decimal step
 reject_text (rejects.BodyDiffers computed) = codes "body " ++ encode_lower computed.0
 reject_text (rejects.ListDiffers computed) = codes "list " ++ encode_lower computed.0
-
--- The line for a proof that isn't accepted, with its line end (0x0A).
-abbrev pub rejected_line : Reject → List ℕ
-rejected_line reject = codes "rejected " ++ reject_text reject ++ 10 ∷ []

@@ -1,5 +1,5 @@
--- The line that is printed for a range proof that isn't accepted.
-use Rattle.std.specs.Prelude.{ℕ, List, [], ◌∷◌, ◌++◌, codes, decimal}
+-- The words that are printed for a range proof that isn't accepted.
+use Rattle.std.specs.Prelude.{ℕ, List, ◌++◌, codes, decimal}
 use Rattle.hex.specs.Hex.{encode_lower}
 use Rattle.proof_checks.specs.declared.reject.Reject.TheVariants as faults
 use Rattle.proof_commands.specs.Lines.{reject_text}
@@ -18,7 +18,3 @@ range_reject_text (rejects.LinkDiffers step computed) =
 range_reject_text (rejects.PathShape step) = reject_text (faults.PathShape step)
 range_reject_text (rejects.BodyDiffers item computed) =
     codes "body " ++ decimal item ++ codes " " ++ encode_lower computed.0
-
--- The line for a proof that isn't accepted, with its line end (0x0A).
-abbrev pub rejected_range_line : RangeReject → List ℕ
-rejected_range_line reject = codes "rejected " ++ range_reject_text reject ++ 10 ∷ []

@@ -1,5 +1,5 @@
--- The line that is printed for a proof of ancestors that isn't accepted.
-use Rattle.std.specs.Prelude.{ℕ, List, [], ◌∷◌, ◌++◌, codes, decimal}
+-- The words that are printed for a proof of ancestors that isn't accepted.
+use Rattle.std.specs.Prelude.{ℕ, List, ◌++◌, codes, decimal}
 use Rattle.hex.specs.Hex.{encode_lower}
 use Rattle.lc_base.specs.declared.digest.Digest.{Digest}
 use Rattle.proof_commands.specs.Lines.{reject_text}
@@ -25,7 +25,3 @@ trace_reject_text (rejects.Order item) = item_text (codes "order") item
 trace_reject_text (rejects.Header item computed) = item_digest_text (codes "header") item computed
 trace_reject_text (rejects.Body item computed) = item_digest_text (codes "body") item computed
 trace_reject_text (rejects.Missing item) = item_text (codes "missing") item
-
--- The line for a proof that isn't accepted, with its line end (0x0A).
-abbrev pub rejected_trace_line : TraceReject → List ℕ
-rejected_trace_line reject = codes "rejected " ++ trace_reject_text reject ++ 10 ∷ []

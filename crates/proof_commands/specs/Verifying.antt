@@ -1,8 +1,7 @@
 -- What `verify_hex` returns for an input: exactly one verification is right for each.
-use Rattle.std.specs.Prelude.{◌≡◌, ℕ, ◌-◌, ◌%◌, ◌<◌, ◌==◌, Bool, false, if◌then◌else◌, List, length, take, slice_get, slice_index, Option, Some, None, Result, Ok, Err}
+use Rattle.std.specs.Prelude.{◌≡◌, ℕ, ◌-◌, ◌%◌, ◌<◌, ◌==◌, Bool, false, if◌then◌else◌, List, length}
+use Rattle.std.specs.Prelude.{take, slice_get, slice_index, Option, Some, None, Result, Ok, Err}
 use Rattle.std.specs.List.{AllPass}
-use Rattle.lc_base.specs.declared.answer.Answer.{Answer}
-use Rattle.lc_base.specs.declared.answer.Query.{Query}
 use Rattle.hex.specs.Hex.{decode_of, is_hex_digit}
 use Rattle.hex.specs.declared.error.FromHexError.{FromHexError}
 use Rattle.hex.specs.declared.error.FromHexError.TheVariants.{InvalidHexCharacter}
@@ -11,13 +10,31 @@ use Rattle.proof_codec.specs.declared.proof.Proof.{Proof}
 use Rattle.proof_codec.specs.Spelling.{IsProof, proof_fields}
 use Rattle.proof_codec.specs.Viewing.{Spells}
 use Rattle.proof_checks.specs.Checks.{verdict}
-use Rattle.proof_checks.specs.declared.reject.Reject.{Reject}
-use Rattle.proof_checks.specs.declared.reject.Reject.TheVariants.{Malformed}
+use Rattle.proof_checks.specs.declared.reject.Reject.TheVariants as rejects
+use Rattle.proof_checks.specs.declared.trace_proof.TraceProof.{TraceProof}
+use Rattle.proof_checks.specs.declared.trace_reject.TraceReject.TheVariants as trace_rejects
+use Rattle.proof_checks.specs.TraceChecks.{trace_verdict}
+use Rattle.proof_checks.specs.TraceSpelling.{SpellsTrace}
+use Rattle.proof_checks.specs.declared.range_proof.RangeProof.{RangeProof}
+use Rattle.proof_checks.specs.declared.range_reject.RangeReject.TheVariants as range_rejects
+use Rattle.proof_checks.specs.RangeChecks.{range_verdict}
+use Rattle.proof_checks.specs.RangeSpelling.{SpellsRange}
 use Rattle.trace_verifier.specs.proof_verifier.Answering.{verdict_on}
+use Rattle.trace_verifier.specs.Malformed as traces
+use Rattle.trace_verifier.specs.Verdicts.{trace_verdict_on}
+use Rattle.range_verifier.specs.Reading as ranges
+use Rattle.range_verifier.specs.Verdicts.{range_verdict_on}
+use Rattle.cli_words.specs.declared.question.Question.{Question}
+use Rattle.cli_words.specs.declared.question.Question.TheVariants.{Version, Ancestors, Between}
+use Rattle.proof_commands.specs.declared.verification.Shown.{Shown}
+use Rattle.proof_commands.specs.declared.verification.Shown.TheVariants as shows
+use Rattle.proof_commands.specs.declared.verification.Refused.{Refused}
+use Rattle.proof_commands.specs.declared.verification.Refused.TheVariants as refusals
 use Rattle.proof_commands.specs.declared.verification.HexFault.{HexFault}
 use Rattle.proof_commands.specs.declared.verification.HexFault.TheVariants.{Odd, At}
 use Rattle.proof_commands.specs.declared.verification.Verification.{Verification}
-use Rattle.proof_commands.specs.declared.verification.Verification.TheVariants.{Accepted, Rejected, BadHex}
+use Rattle.proof_commands.specs.declared.verification.Verification.TheVariants.{Accepted, Rejected}
+use Rattle.proof_commands.specs.declared.verification.Verification.TheVariants.{BadHex}
 
 -- Whether there is a byte and it is a line end.
 abbrev pub is_line_end : Option ℕ → Bool
@@ -28,11 +45,6 @@ is_line_end (Some byte) = byte == 10
 abbrev pub hex_text : List ℕ → List ℕ
 hex_text input = if is_line_end (slice_get input (length input - 1)) then take (length input - 1) input else input
 
--- The verification for a verdict.
-abbrev pub of_verdict : Result Answer Reject → Verification
-of_verdict (Ok answer) = Accepted answer
-of_verdict (Err reject) = Rejected reject
-
 -- The text has an even number of bytes, and its first byte that isn't a hex digit of either case is
 -- at this offset.
 pub record IsFirstNoDigit (text : List ℕ) (at : ℕ) : Type 0 where
@@ -41,18 +53,76 @@ pub record IsFirstNoDigit (text : List ℕ) (at : ℕ) : Type 0 where
   pub no_digit : is_hex_digit (slice_index text at) ≡ false
   pub before : AllPass is_hex_digit (take at text)
 
+-- ---- what differs by the kind of a question
+
+-- The proofs of a question's kind.
+abbrev pub ProofOf : Question → Type 0
+ProofOf (Version query) = Proof
+ProofOf (Ancestors key at) = TraceProof
+ProofOf (Between key from to) = RangeProof
+
+-- The bytes spell this proof.
+abbrev pub SpellsFor : (question : Question) → List ℕ → ProofOf question → Type 0
+SpellsFor (Version query) bytes proof = Spells bytes proof
+SpellsFor (Ancestors key at) bytes proof = SpellsTrace bytes proof
+SpellsFor (Between key from to) bytes proof = SpellsRange bytes proof
+
+-- The offset of the first invalid field of bytes that spell no proof.
+abbrev pub IsMalformedAt : Question → List ℕ → ℕ → Type 0
+IsMalformedAt (Version query) bytes offset = IsLongestPrefix proof_fields IsProof bytes offset
+IsMalformedAt (Ancestors key at) bytes offset = traces.IsInvalidAt bytes offset
+IsMalformedAt (Between key from to) bytes offset = ranges.IsInvalidAt bytes offset
+
+-- The refusal of such bytes.
+abbrev pub malformed : Question → ℕ → Refused
+malformed (Version query) offset = refusals.Version (rejects.Malformed offset)
+malformed (Ancestors key at) offset = refusals.Ancestors (trace_rejects.Malformed offset)
+malformed (Between key from to) offset = refusals.Between (range_rejects.Malformed offset)
+
+-- A result of one kind, as one of any kind.
+abbrev pub of_kind : {A E : Type 0} → (A → Shown) → (E → Refused) → Result A E
+    → Result Shown Refused
+of_kind show refuse (Ok shown) = Ok (show shown)
+of_kind show refuse (Err reject) = Err (refuse reject)
+
+-- What a proof shows under a root, or the first check that fails.
+abbrev pub verdict_for : List ℕ → (question : Question) → ProofOf question → Result Shown Refused
+verdict_for root (Version query) proof =
+    of_kind shows.Answer refusals.Version (verdict root query proof)
+verdict_for root (Ancestors key at) proof =
+    of_kind shows.Ancestors refusals.Ancestors (trace_verdict root key at proof)
+verdict_for root (Between key from to) proof =
+    of_kind shows.Versions refusals.Between (range_verdict root key from to proof)
+
+-- ---- what is right for bytes, and for an input
+
+-- The verdict on bytes for one who has the root: if they spell no proof of the question's kind, the
+-- offset of the first invalid field, else the verdict on the proof.
+pub data IsVerdict (root : List ℕ) (question : Question) (bytes : List ℕ)
+    : Result Shown Refused → Type 0 where
+  NoProof : ((proof : ProofOf question) → SpellsFor question bytes proof → ⊥)
+      → (offset : ℕ) → IsMalformedAt question bytes offset
+      → IsVerdict root question bytes (Err (malformed question offset))
+  Judged : (proof : ProofOf question) → SpellsFor question bytes proof
+      → IsVerdict root question bytes (verdict_for root question proof)
+
+-- The verification for a verdict.
+abbrev pub of_verdict : Result Shown Refused → Verification
+of_verdict (Ok shown) = Accepted shown
+of_verdict (Err refused) = Rejected refused
+
 -- The verification of an input for one who has the root. The input is hex with digits of either
 -- case, and may end with one line end. If the number of its other bytes is odd, it is `Odd`; else,
--- if one of them isn't a digit, the offset of the first such byte. If the bytes that it decodes to
--- aren't a proof, it is the offset of the first invalid field; else the verdict on the proof.
-pub data IsVerification (root : List ℕ) (query : Query) (input : List ℕ) : Verification → Type 0 where
-  OddDigits : length (hex_text input) % 2 ≡ 1 → IsVerification root query input (BadHex Odd)
-  NoDigit : (at : ℕ) → IsFirstNoDigit (hex_text input) at → IsVerification root query input (BadHex (At at))
-  NoProof : (bytes : List ℕ) → decode_of (hex_text input) ≡ Ok bytes → ((proof : Proof) → Spells bytes proof → ⊥) →
-      (at : ℕ) → IsLongestPrefix proof_fields IsProof bytes at →
-      IsVerification root query input (Rejected (Malformed at))
-  Judged : (bytes : List ℕ) → decode_of (hex_text input) ≡ Ok bytes → (proof : Proof) → Spells bytes proof →
-      IsVerification root query input (of_verdict (verdict root query proof))
+-- if one of them isn't a digit, the offset of the first such byte; else the verdict on the bytes
+-- that it decodes to.
+pub data IsVerification (root : List ℕ) (question : Question) (input : List ℕ)
+    : Verification → Type 0 where
+  OddDigits : length (hex_text input) % 2 ≡ 1 → IsVerification root question input (BadHex Odd)
+  NoDigit : (at : ℕ) → IsFirstNoDigit (hex_text input) at
+      → IsVerification root question input (BadHex (At at))
+  Decoded : (bytes : List ℕ) → decode_of (hex_text input) ≡ Ok bytes
+      → (found : Result Shown Refused) → IsVerdict root question bytes found
+      → IsVerification root question input (of_verdict found)
 
 -- ---- the same by functions, in the order of the code
 
@@ -67,12 +137,22 @@ abbrev pub bytes_or_fault : Result (List ℕ) FromHexError → Result (List ℕ)
 bytes_or_fault (Ok bytes) = Ok bytes
 bytes_or_fault (Err error) = Err (hex_fault error)
 
+-- The verdict on bytes for one who has the root.
+abbrev pub verdict_of : List ℕ → Question → List ℕ → Result Shown Refused
+verdict_of root (Version query) bytes =
+    of_kind shows.Answer refusals.Version (verdict_on root query bytes)
+verdict_of root (Ancestors key at) bytes =
+    of_kind shows.Ancestors refusals.Ancestors (trace_verdict_on root key at bytes)
+verdict_of root (Between key from to) bytes =
+    of_kind shows.Versions refusals.Between (range_verdict_on root key from to bytes)
+
 -- The verification of the proof that a text decodes to, for one who has the root.
-abbrev pub of_decoded : List ℕ → Query → Result (List ℕ) HexFault → Verification
-of_decoded root query (Ok proof) = of_verdict (verdict_on root query proof)
-of_decoded root query (Err fault) = BadHex fault
+abbrev pub of_decoded : List ℕ → Question → Result (List ℕ) HexFault → Verification
+of_decoded root question (Ok bytes) = of_verdict (verdict_of root question bytes)
+of_decoded root question (Err fault) = BadHex fault
 
 -- The verification of an input, which is hex with digits of either case and may end with one line
 -- end.
-abbrev pub verification : List ℕ → Query → List ℕ → Verification
-verification root query input = of_decoded root query (bytes_or_fault (decode_of (hex_text input)))
+abbrev pub verification : List ℕ → Question → List ℕ → Verification
+verification root question input =
+    of_decoded root question (bytes_or_fault (decode_of (hex_text input)))

@@ -1,11 +1,11 @@
-//! The line for a proof that isn't accepted names the check that failed and the digest that was
-//! computed.
+//! The words for a proof of an answer that isn't accepted name the check that failed and the digest
+//! that was computed.
 
-ghost use Rattle.std.specs.Prelude.{◌≡◌, [], ◌∷◌, ◌++◌, codes, string_bytes, IfOk};
-ghost use Rattle.proof_commands.specs.Lines.{reject_text, rejected_line};
+ghost use Rattle.std.specs.Prelude.{◌≡◌, string_bytes, IfOk};
+ghost use Rattle.proof_commands.specs.Lines.{reject_text};
 
 use digest_kit::digest_text;
-use lc_base::{Bytes, Digest, Memory};
+use lc_base::Digest;
 use proof_checks::Reject;
 use std::alloc::{AllocError, Global};
 
@@ -16,7 +16,7 @@ fn link_text(alloc: Global, step: u32, computed: &Digest) -> Result<String, Allo
     digest_text(alloc, word.as_str(), computed)
 }
 
-/// The words for the check of a proof that failed, without a line end.
+/// The words for the check of a proof of an answer that failed, without a line end.
 pub fn reject_text(alloc: Global, reject: &Reject) -> Result<String, AllocError>
     ensures { IfOk result (λ text. string_bytes text ≡ reject_text reject.now) }
 {
@@ -30,20 +30,4 @@ pub fn reject_text(alloc: Global, reject: &Reject) -> Result<String, AllocError>
         Reject::BodyDiffers { computed } => digest_text(alloc, "body ", computed),
         Reject::ListDiffers { computed } => digest_text(alloc, "list ", computed),
     }
-}
-
-fn line_of(alloc: Global, text: &str) -> Result<Bytes, Memory>
-    ensures { IfOk result (λ bytes. bytes ≡ codes "rejected " ++ text.now ++ 10 ∷ []) }
-{
-    let line = format!(in alloc; "rejected {text}\n")?;
-    Ok(Bytes::from_vec(line.into_bytes()))
-}
-
-/// The line to print for a proof that isn't accepted: `rejected`, the check that failed, and a line
-/// end.
-pub fn rejected_line(alloc: Global, reject: &Reject) -> Result<Bytes, Memory>
-    ensures { IfOk result (λ bytes. bytes ≡ rejected_line reject.now) }
-{
-    let text = reject_text(alloc, reject)?;
-    line_of(alloc, text.as_str())
 }

@@ -1,12 +1,12 @@
-//! The line for a range proof that isn't accepted names the check that failed, and the digest that
+//! The words for a range proof that isn't accepted name the check that failed, and the digest that
 //! was computed.
 
 ghost use Rattle.std.specs.Prelude.{◌≡◌, string_bytes, IfOk};
-ghost use Rattle.proof_commands.specs.RangeLines.{range_reject_text, rejected_range_line};
+ghost use Rattle.proof_commands.specs.RangeLines.{range_reject_text};
 
 use crate::lines::reject_text;
 use digest_kit::digest_text;
-use lc_base::{Bytes, Digest, Memory};
+use lc_base::Digest;
 use proof_checks::{RangeReject, Reject};
 use std::alloc::{AllocError, Global};
 
@@ -19,7 +19,7 @@ fn body_text(alloc: Global, item: u32, computed: &Digest) -> Result<String, Allo
 }
 
 /// The words for the check that failed.
-fn range_reject_text(alloc: Global, reject: RangeReject) -> Result<String, AllocError>
+pub(crate) fn range_reject_text(alloc: Global, reject: RangeReject) -> Result<String, AllocError>
     ensures { IfOk result (λ text. string_bytes text ≡ range_reject_text reject) }
 {
     match reject {
@@ -35,14 +35,4 @@ fn range_reject_text(alloc: Global, reject: RangeReject) -> Result<String, Alloc
         RangeReject::PathShape { step } => reject_text(alloc, &Reject::PathShape { step }),
         RangeReject::BodyDiffers { item, computed } => body_text(alloc, item, &computed),
     }
-}
-
-/// The line to print for a range proof that isn't accepted: `rejected`, the check that failed, and
-/// a line end.
-pub fn rejected_range_line(alloc: Global, reject: &RangeReject) -> Result<Bytes, Memory>
-    ensures { IfOk result (λ bytes. bytes ≡ rejected_range_line reject.now) }
-{
-    let text = range_reject_text(alloc, *reject)?;
-    let line = format!(in alloc; "rejected {text}\n")?;
-    Ok(Bytes::from_vec(line.into_bytes()))
 }

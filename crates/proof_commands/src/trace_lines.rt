@@ -1,12 +1,12 @@
-//! The line for a proof of ancestors that isn't accepted names the check that failed, the item, and
+//! The words for a proof of ancestors that isn't accepted name the check that failed, the item, and
 //! the digest that was computed.
 
 ghost use Rattle.std.specs.Prelude.{◌≡◌, string_bytes, IfOk};
-ghost use Rattle.proof_commands.specs.TraceLines.{trace_reject_text, rejected_trace_line};
+ghost use Rattle.proof_commands.specs.TraceLines.{trace_reject_text};
 
 use crate::lines::reject_text;
 use digest_kit::digest_text;
-use lc_base::{Bytes, Digest, Memory};
+use lc_base::Digest;
 use proof_checks::TraceReject;
 use std::alloc::{AllocError, Global};
 
@@ -25,7 +25,7 @@ fn body_text(alloc: Global, item: u32, computed: &Digest) -> Result<String, Allo
 }
 
 /// The words for the check that failed.
-fn trace_reject_text(alloc: Global, reject: &TraceReject) -> Result<String, AllocError>
+pub(crate) fn trace_reject_text(alloc: Global, reject: &TraceReject) -> Result<String, AllocError>
     ensures { IfOk result (λ text. string_bytes text ≡ trace_reject_text reject.now) }
 {
     match reject {
@@ -39,14 +39,4 @@ fn trace_reject_text(alloc: Global, reject: &TraceReject) -> Result<String, Allo
         TraceReject::Body { item, computed } => body_text(alloc, *item, computed),
         TraceReject::Missing { item } => format!(in alloc; "trace missing {item}"),
     }
-}
-
-/// The line to print for a proof of ancestors that isn't accepted: `rejected`, the check that
-/// failed, and a line end.
-pub fn rejected_trace_line(alloc: Global, reject: &TraceReject) -> Result<Bytes, Memory>
-    ensures { IfOk result (λ bytes. bytes ≡ rejected_trace_line reject.now) }
-{
-    let text = trace_reject_text(alloc, reject)?;
-    let line = format!(in alloc; "rejected {text}\n")?;
-    Ok(Bytes::from_vec(line.into_bytes()))
 }

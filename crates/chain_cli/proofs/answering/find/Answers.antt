@@ -1,11 +1,10 @@
 use Rattle.std.proofs.Common.{Some, refl}
 use Rattle.lc_io.specs.Scratch.{is_known}
-use Rattle.cli_words.specs.declared.words.Command.TheVariants.{Scan, Fmt, Pack, Load, Verify}
-use Rattle.cli_words.specs.declared.words.Command.TheVariants.{VerifyTrace, VerifyRange}
+use Rattle.cli_words.specs.declared.words.Command.TheVariants.{Scan, Fmt, Pack, Load, Ask, Verify}
 use Rattle.cli_output.specs.Telling.{status_of_found}
 use Rattle.chain_cli.proofs.Ends.{read_ends, load_ends, of_given, found_log, is_count}
 use Rattle.chain_cli.proofs.Runs.{scan_found, fmt_found, pack_found, verify_found, load_found}
-use Rattle.chain_cli.proofs.Runs.{verify_trace_found, verify_range_found, of_found}
+use Rattle.chain_cli.proofs.Runs.{of_found}
 use Rattle.chain_cli.proofs.answering.find.Goals as goal
 
 pub returns-in-Scan-clause-found : goal.returns-in-Scan-clause-found
@@ -46,76 +45,28 @@ returns-in-Pack-clause-no_log g c none = absurd (found_log (status_of_found c.pa
 
 pub returns-in-Ask-clause-found : goal.returns-in-Ask-clause-found
 returns-in-Ask-clause-found g c =
-    c.ask_rows.ensures.found (g.I.Source.left c.args.source.now)
-    (is_known (g.S.Scratch.state c.args.scratch.now))
+    of_found (g.M.Clock.disk c.args.machine.now (g.M.Clock.now c.args.machine.now)) c.ask_rows.result
+    (g.I.Source.left c.args.source.now) (g.I.Source.left c.args.source.now)
+    (is_known (g.S.Scratch.state c.args.scratch.now)) c.args.command.now (Ask c.in-Ask.asked)
+    c.in-Ask.is
+    (c.ask_rows.ensures.found (g.I.Source.left c.args.source.now)
+    (is_known (g.S.Scratch.state c.args.scratch.now)))
+
+pub returns-in-Ask-clause-ends : goal.returns-in-Ask-clause-ends
+returns-in-Ask-clause-ends g c = of_given (status_of_found c.ask_rows.result) c.args.command.now
+    (Ask c.in-Ask.asked) c.in-Ask.is c.ask_rows.ensures.ends
 
 pub returns-in-Verify-clause-found : goal.returns-in-Verify-clause-found
 returns-in-Verify-clause-found g c =
-    of_found (g.M.Clock.disk c.args.machine.now (g.M.Clock.now c.args.machine.now)) c.verify.result (g.I.Source.left c.args.source.now) (g.I.Source.left c.verify.new.source) (is_known (g.S.Scratch.state c.args.scratch.now)) c.args.command.now (Verify c.in-Verify.root c.in-Verify.query) c.in-Verify.is
-    (verify_found (g.M.Clock.disk c.args.machine.now (g.M.Clock.now c.args.machine.now)) c.verify.result (g.I.Source.left c.args.source.now) (g.I.Source.left c.verify.new.source) (is_known (g.S.Scratch.state c.args.scratch.now)) c.in-Verify.root c.in-Verify.query c.verify.ensures.outcome)
+    of_found (g.M.Clock.disk c.args.machine.now (g.M.Clock.now c.args.machine.now)) c.verify.result (g.I.Source.left c.args.source.now) (g.I.Source.left c.verify.new.source) (is_known (g.S.Scratch.state c.args.scratch.now)) c.args.command.now (Verify c.in-Verify.root c.in-Verify.question) c.in-Verify.is
+    (verify_found (g.M.Clock.disk c.args.machine.now (g.M.Clock.now c.args.machine.now)) c.verify.result (g.I.Source.left c.args.source.now) (g.I.Source.left c.verify.new.source) (is_known (g.S.Scratch.state c.args.scratch.now)) c.in-Verify.root c.in-Verify.question c.verify.ensures.outcome)
 
 pub returns-in-Verify-clause-ends : goal.returns-in-Verify-clause-ends
-returns-in-Verify-clause-ends g c = of_given (status_of_found c.verify.result) c.args.command.now (Verify c.in-Verify.root c.in-Verify.query) c.in-Verify.is
-    (read_ends c.verify.result (Some (Verify c.in-Verify.root c.in-Verify.query)) refl c.verify.ensures.ends c.verify.ensures.only)
+returns-in-Verify-clause-ends g c = of_given (status_of_found c.verify.result) c.args.command.now (Verify c.in-Verify.root c.in-Verify.question) c.in-Verify.is
+    (read_ends c.verify.result (Some (Verify c.in-Verify.root c.in-Verify.question)) refl c.verify.ensures.ends c.verify.ensures.only)
 
 pub returns-in-Verify-clause-no_log : goal.returns-in-Verify-clause-no_log
-returns-in-Verify-clause-no_log g c none = absurd (found_log (status_of_found c.verify.result) (Verify c.in-Verify.root c.in-Verify.query) refl (read_ends c.verify.result (Some (Verify c.in-Verify.root c.in-Verify.query)) refl c.verify.ensures.ends c.verify.ensures.only) none)
-
-pub returns-in-VerifyTrace-clause-found : goal.returns-in-VerifyTrace-clause-found
-returns-in-VerifyTrace-clause-found g c =
-    of_found (g.M.Clock.disk c.args.machine.now (g.M.Clock.now c.args.machine.now))
-    c.verify_trace.result (g.I.Source.left c.args.source.now)
-    (g.I.Source.left c.verify_trace.new.source) (is_known (g.S.Scratch.state c.args.scratch.now))
-    c.args.command.now (VerifyTrace c.in-VerifyTrace.root c.in-VerifyTrace.key c.in-VerifyTrace.at)
-    c.in-VerifyTrace.is
-    (verify_trace_found (g.M.Clock.disk c.args.machine.now (g.M.Clock.now c.args.machine.now))
-    c.verify_trace.result (g.I.Source.left c.args.source.now)
-    (g.I.Source.left c.verify_trace.new.source) (is_known (g.S.Scratch.state c.args.scratch.now))
-    c.in-VerifyTrace.root c.in-VerifyTrace.key c.in-VerifyTrace.at c.verify_trace.ensures.outcome)
-
-pub returns-in-VerifyTrace-clause-ends : goal.returns-in-VerifyTrace-clause-ends
-returns-in-VerifyTrace-clause-ends g c = of_given (status_of_found c.verify_trace.result)
-    c.args.command.now (VerifyTrace c.in-VerifyTrace.root c.in-VerifyTrace.key c.in-VerifyTrace.at)
-    c.in-VerifyTrace.is
-    (read_ends c.verify_trace.result (Some (VerifyTrace c.in-VerifyTrace.root c.in-VerifyTrace.key
-    c.in-VerifyTrace.at)) refl c.verify_trace.ensures.ends c.verify_trace.ensures.only)
-
-pub returns-in-VerifyTrace-clause-no_log : goal.returns-in-VerifyTrace-clause-no_log
-returns-in-VerifyTrace-clause-no_log g c none =
-    absurd (found_log (status_of_found c.verify_trace.result)
-    (VerifyTrace c.in-VerifyTrace.root c.in-VerifyTrace.key c.in-VerifyTrace.at) refl
-    (read_ends c.verify_trace.result (Some (VerifyTrace c.in-VerifyTrace.root c.in-VerifyTrace.key
-    c.in-VerifyTrace.at)) refl c.verify_trace.ensures.ends c.verify_trace.ensures.only) none)
-
-pub returns-in-VerifyRange-clause-found : goal.returns-in-VerifyRange-clause-found
-returns-in-VerifyRange-clause-found g c =
-    of_found (g.M.Clock.disk c.args.machine.now (g.M.Clock.now c.args.machine.now))
-    c.verify_range.result (g.I.Source.left c.args.source.now)
-    (g.I.Source.left c.verify_range.new.source) (is_known (g.S.Scratch.state c.args.scratch.now))
-    c.args.command.now (VerifyRange c.in-VerifyRange.root c.in-VerifyRange.key c.in-VerifyRange.from
-    c.in-VerifyRange.to) c.in-VerifyRange.is
-    (verify_range_found (g.M.Clock.disk c.args.machine.now (g.M.Clock.now c.args.machine.now))
-    c.verify_range.result (g.I.Source.left c.args.source.now)
-    (g.I.Source.left c.verify_range.new.source) (is_known (g.S.Scratch.state c.args.scratch.now))
-    c.in-VerifyRange.root c.in-VerifyRange.key c.in-VerifyRange.from c.in-VerifyRange.to
-    c.verify_range.ensures.outcome)
-
-pub returns-in-VerifyRange-clause-ends : goal.returns-in-VerifyRange-clause-ends
-returns-in-VerifyRange-clause-ends g c = of_given (status_of_found c.verify_range.result)
-    c.args.command.now (VerifyRange c.in-VerifyRange.root c.in-VerifyRange.key c.in-VerifyRange.from
-    c.in-VerifyRange.to) c.in-VerifyRange.is
-    (read_ends c.verify_range.result (Some (VerifyRange c.in-VerifyRange.root c.in-VerifyRange.key
-    c.in-VerifyRange.from c.in-VerifyRange.to)) refl c.verify_range.ensures.ends
-    c.verify_range.ensures.only)
-
-pub returns-in-VerifyRange-clause-no_log : goal.returns-in-VerifyRange-clause-no_log
-returns-in-VerifyRange-clause-no_log g c none =
-    absurd (found_log (status_of_found c.verify_range.result)
-    (VerifyRange c.in-VerifyRange.root c.in-VerifyRange.key c.in-VerifyRange.from
-    c.in-VerifyRange.to) refl
-    (read_ends c.verify_range.result (Some (VerifyRange c.in-VerifyRange.root c.in-VerifyRange.key
-    c.in-VerifyRange.from c.in-VerifyRange.to)) refl c.verify_range.ensures.ends
-    c.verify_range.ensures.only) none)
+returns-in-Verify-clause-no_log g c none = absurd (found_log (status_of_found c.verify.result) (Verify c.in-Verify.root c.in-Verify.question) refl (read_ends c.verify.result (Some (Verify c.in-Verify.root c.in-Verify.question)) refl c.verify.ensures.ends c.verify.ensures.only) none)
 
 pub load_outcome-requires : goal.load_outcome-requires
 load_outcome-requires g c =

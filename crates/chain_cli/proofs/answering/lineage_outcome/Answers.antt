@@ -1,9 +1,7 @@
 use Rattle.std.proofs.Common.{Some, Ok, refl}
 use Rattle.cli_words.specs.declared.words.Command.TheVariants.{Root, Prove, Expose}
-use Rattle.cli_words.specs.declared.words.Command.TheVariants.{ProveTrace, ProveRange}
 use Rattle.chain_exec.specs.Compiled.{compiled_in}
-use Rattle.cli_output.specs.Output.{root_outcome, prove_outcome, prove_trace_outcome}
-use Rattle.cli_output.specs.Output.{prove_range_outcome, at_or_last}
+use Rattle.cli_output.specs.Output.{root_outcome, prove_outcome, at_or_last}
 use Rattle.cli_output.specs.Telling.{status_of_found}
 use Rattle.cli_output.specs.declared.stop.OutcomeStop.{OutcomeStop}
 use Rattle.cli_output.proofs.Ends.{asked_ends, may_end}
@@ -27,67 +25,26 @@ returns-in_ok-root_outcome-in-Root-clause-ends g c = of_given (status_of_found (
 pub returns-in_ok-root_outcome-in-Root-clause-has_log : goal.returns-in_ok-root_outcome-in-Root-clause-has_log
 returns-in_ok-root_outcome-in-Root-clause-has_log g c = asked_has_log (Ok c.in_ok-root_outcome-in-Root.field-0) c.in_ok-root_outcome-in-Root.ensures.ends
 
+pub prove-requires-clause-in_order : goal.prove-requires-clause-in_order
+prove-requires-clause-in_order g c = proved_in_order c.args.command.now c.in-Prove.question
+    c.in-Prove.root_at c.in-Prove.is c.requires.given
+
 pub returns-in-Prove-clause-found : goal.returns-in-Prove-clause-found
 returns-in-Prove-clause-found g c held kept same =
     of_over kept c.prove.result (g.I.Source.left c.args.source.now)
     (g.I.Source.left c.args.source.now) c.args.command.now
-    (Prove c.in-Prove.query c.in-Prove.root_at) c.in-Prove.is
+    (Prove c.in-Prove.question c.in-Prove.root_at) c.in-Prove.is
     (asked_over kept c.prove.result
-    (prove_outcome compiled_in c.in-Prove.query c.in-Prove.root_at)
+    (prove_outcome compiled_in c.in-Prove.question c.in-Prove.root_at)
     (g.I.Source.left c.args.source.now) (c.prove.ensures.outcome held kept same))
 
 pub returns-in-Prove-clause-ends : goal.returns-in-Prove-clause-ends
 returns-in-Prove-clause-ends g c = lineage_ends c.prove.result c.args.command.now
-    (Prove c.in-Prove.query c.in-Prove.root_at) c.in-Prove.is refl
+    (Prove c.in-Prove.question c.in-Prove.root_at) c.in-Prove.is refl
     c.prove.ensures.ends c.prove.ensures.reads
 
 pub returns-in-Prove-clause-has_log : goal.returns-in-Prove-clause-has_log
 returns-in-Prove-clause-has_log g c = asked_has_log c.prove.result c.prove.ensures.ends
-
-pub returns-in-ProveTrace-clause-found : goal.returns-in-ProveTrace-clause-found
-returns-in-ProveTrace-clause-found g c held kept same =
-    of_over kept c.prove_trace.result (g.I.Source.left c.args.source.now)
-    (g.I.Source.left c.args.source.now) c.args.command.now
-    (ProveTrace c.in-ProveTrace.key c.in-ProveTrace.at c.in-ProveTrace.root_at) c.in-ProveTrace.is
-    (asked_over kept c.prove_trace.result
-    (prove_trace_outcome compiled_in c.in-ProveTrace.key c.in-ProveTrace.at c.in-ProveTrace.root_at)
-    (g.I.Source.left c.args.source.now) (c.prove_trace.ensures.outcome held kept same))
-
-pub returns-in-ProveTrace-clause-ends : goal.returns-in-ProveTrace-clause-ends
-returns-in-ProveTrace-clause-ends g c = lineage_ends c.prove_trace.result c.args.command.now
-    (ProveTrace c.in-ProveTrace.key c.in-ProveTrace.at c.in-ProveTrace.root_at) c.in-ProveTrace.is
-    refl
-    c.prove_trace.ensures.ends c.prove_trace.ensures.reads
-
-pub returns-in-ProveTrace-clause-has_log : goal.returns-in-ProveTrace-clause-has_log
-returns-in-ProveTrace-clause-has_log g c = asked_has_log c.prove_trace.result
-    c.prove_trace.ensures.ends
-
-pub prove_range-requires-clause-in_order : goal.prove_range-requires-clause-in_order
-prove_range-requires-clause-in_order g c = proved_in_order c.args.command.now c.in-ProveRange.key
-    c.in-ProveRange.from c.in-ProveRange.to c.in-ProveRange.root_at c.in-ProveRange.is
-    c.requires.given
-
-pub returns-in-ProveRange-clause-found : goal.returns-in-ProveRange-clause-found
-returns-in-ProveRange-clause-found g c held kept same =
-    of_over kept c.prove_range.result (g.I.Source.left c.args.source.now)
-    (g.I.Source.left c.args.source.now) c.args.command.now
-    (ProveRange c.in-ProveRange.key c.in-ProveRange.from c.in-ProveRange.to c.in-ProveRange.root_at)
-    c.in-ProveRange.is
-    (asked_over kept c.prove_range.result
-    (prove_range_outcome compiled_in c.in-ProveRange.key c.in-ProveRange.from c.in-ProveRange.to
-    c.in-ProveRange.root_at)
-    (g.I.Source.left c.args.source.now) (c.prove_range.ensures.outcome held kept same))
-
-pub returns-in-ProveRange-clause-ends : goal.returns-in-ProveRange-clause-ends
-returns-in-ProveRange-clause-ends g c = lineage_ends c.prove_range.result c.args.command.now
-    (ProveRange c.in-ProveRange.key c.in-ProveRange.from c.in-ProveRange.to c.in-ProveRange.root_at)
-    c.in-ProveRange.is refl
-    c.prove_range.ensures.ends c.prove_range.ensures.reads
-
-pub returns-in-ProveRange-clause-has_log : goal.returns-in-ProveRange-clause-has_log
-returns-in-ProveRange-clause-has_log g c = asked_has_log c.prove_range.result
-    c.prove_range.ensures.ends
 
 pub returns-in-Expose-clause-found : goal.returns-in-Expose-clause-found
 returns-in-Expose-clause-found g c held kept same =

@@ -11,7 +11,7 @@ use Rattle.chain_cli.proofs.Moments.{any_command}
 use Rattle.chain_cli.proofs.OneOutput.{compiled_by}
 use Rattle.chain_cli.proofs.HeldLights.{made_light_files_are_whole}
 use Rattle.chain_cli.proofs.Followed.{followed_chains}
-use Rattle.chain_cli.proofs.HeldTraces.{ancestors_are_the_reached}
+use Rattle.chain_cli.proofs.Ancestors.{ancestors_are_the_reached}
 use Rattle.chain_cli.proofs.run.run.Goals as goal
 
 pub returns-clause-output : goal.returns-clause-output
