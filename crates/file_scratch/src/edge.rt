@@ -21,7 +21,7 @@ pub struct HostCalls<'a> {
 
 impl<'a> HostCalls<'a> {
     /// Over an open file, or none yet.
-    pub(crate) fn new(rt: &'a HostRuntime, file: Option<File>) -> HostCalls<'a>
+    pub fn new(rt: &'a HostRuntime, file: Option<File>) -> HostCalls<'a>
         ensures file { result.file ≡ file }
     {
         HostCalls { rt, file }

@@ -2,7 +2,7 @@
 
 ghost use Rattle.std.specs.Prelude.{◌≡◌, length, IfSome};
 
-use file_scratch::{FileScratch, GATHERED_BYTES};
+use file_scratch::{Calls, FileScratch, GATHERED_BYTES, HostCalls};
 use lc_io::{Failed, MemScratch, Room, Scratch};
 use std::alloc::Global;
 use std::fs;
@@ -13,6 +13,12 @@ const FILE: &str = "chain.scratch";
 
 /// A file of the tests, which exists neither before them nor after them.
 const SHORT_FILE: &str = "chain_tests.short";
+
+/// Another one.
+const LONG_FILE: &str = "chain_tests.long";
+
+/// A place that no 32 bits hold.
+const FAR_PLACE: u64 = 1 << 32;
 
 /// The bytes of a user's file.
 const KEPT: &[u8] = b"a file of the same name";
@@ -235,6 +241,32 @@ fn scratch_file_that_was_cut(rt: HostRuntime) {
     assert!(rt; get_from_short(&rt, 4, &mut got) == Err(Failed));
     assert!(rt; get_from_short(&rt, 5, &mut got) == Ok(()) && got == *b"de");
     assert!(rt; !is_there(&rt, SHORT_FILE));
+}
+
+/// Writes a text at a far place and one at the start, and reads both.
+fn write_far<C: Calls>(calls: &mut C, near: &mut [u8; 3], far: &mut [u8; 2]) -> Result<(), Failed> {
+    calls.write(FAR_PLACE, b"de")?;
+    calls.write(0, b"abc")?;
+    calls.read(0, near)?;
+    calls.read(FAR_PLACE, far)
+}
+
+/// Does so on a new file, which is removed then. Between the texts nothing is written, so the file
+/// takes little of the disk.
+fn write_far_on_file(rt: &HostRuntime, near: &mut [u8; 3], far: &mut [u8; 2]) -> bool {
+    let Ok(file) = File::create_new(rt, LONG_FILE) else {
+        return false;
+    };
+    let mut calls = HostCalls::new(rt, Some(file));
+    let done = write_far(&mut calls, near, far);
+    fs::remove_file(rt, LONG_FILE).is_ok() && done.is_ok()
+}
+
+#[test]
+fn scratch_file_past_four_gigabytes(rt: HostRuntime) {
+    let (mut near, mut far) = ([0; 3], [0; 2]);
+    assert!(rt; write_far_on_file(&rt, &mut near, &mut far));
+    assert!(rt; near == *b"abc" && far == *b"de");
 }
 
 #[test]
